@@ -1,0 +1,3 @@
+pub mod Refusals
+pub mod Number
+pub mod Reading

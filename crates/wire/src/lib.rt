@@ -1,0 +1,3 @@
+// What every layer shares: refusals and the number format.
+pub mod number;
+pub mod refusal;
