@@ -1,0 +1,3 @@
+// Tasks: formulas of linear temporal logic on finite traces, their text and their truth.
+pub mod node;
+pub mod task;
