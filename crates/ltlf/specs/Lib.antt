@@ -1,3 +1,5 @@
 pub mod Formula
 pub mod Nodes
 pub mod Tasks
+pub mod Prefix
+pub mod Steps

@@ -12,8 +12,8 @@ pub const MAX_SIGNS: usize = 64;
 // A task for `actions` actions. The zero task has no actions and no nodes.
 #[derive(Drop)]
 pub struct Task {
-    actions: u8,
-    nodes: Vec<Node>,
+    pub(crate) actions: u8,
+    pub(crate) nodes: Vec<Node>,
     ghost few: { vec-len nodes ≤ 64 },
 }
 
