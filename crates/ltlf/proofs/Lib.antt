@@ -1,0 +1,3 @@
+pub mod Means
+pub mod Shift
+pub mod Step

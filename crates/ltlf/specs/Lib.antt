@@ -1,3 +1,6 @@
 pub mod Formula
 pub mod Nodes
 pub mod Tasks
+pub mod Truth
+pub mod Meaning
+pub mod Suffix
