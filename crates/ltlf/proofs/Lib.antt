@@ -1,3 +1,5 @@
 pub mod Means
 pub mod Shift
 pub mod Step
+pub mod Passes
+pub mod Suffixes

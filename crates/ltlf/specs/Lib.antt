@@ -4,3 +4,4 @@ pub mod Tasks
 pub mod Truth
 pub mod Meaning
 pub mod Suffix
+pub mod Rows

@@ -1,3 +1,4 @@
 // Tasks: formulas of linear temporal logic on finite traces, their text and their truth.
 pub mod node;
 pub mod task;
+pub mod truth;
