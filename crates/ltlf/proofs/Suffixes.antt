@@ -1,12 +1,14 @@
 -- The rows of the passes are rows of truths.
-use Prim.Native.Nat.{ℕ, zero, suc, _-_, _<_, _≤_}
+use Prim.Native.Nat.{ℕ, zero, suc, min, _+_, _-_, _<_, _≤_}
 use mathlib.Core.Bool.{Bool, true, false, cond, _||_, _&&_, not}
 use mathlib.Core.List.{List, [], _∷_, _++_, map}
 use mathlib.Core.Path.{_≡_, refl, sym, ap, ap₂, subst, _∙_}
+use mathlib.Core.Logic.{⊎-elim}
 use native.Mathlib.Omega.{arith}
-use lib.Dec.{ltb}
-use lib.ListN.{length, getD, take, replicate}
-use Rattle.std.proofs.shelf.Tests.{ltb-true}
+use lib.Dec.{eqb, ltb}
+use lib.ListN.{length, getD, take, drop, replicate}
+use Rattle.std.proofs.shelf.Lists.{drop-all, drop-more, length-append, length-map, length-replicate, length-take}
+use Rattle.std.proofs.shelf.Tests.{ltb-true, eq-eqb, ne-eqb, cases-eq}
 use Rattle.ltlf.specs.declared.node.Node.{Node}
 use Rattle.ltlf.specs.declared.node.Node.the-variants as node
 use Rattle.ltlf.specs.Formula.{Formula, letter}
@@ -148,7 +150,40 @@ pub row-step : (xs : List Node) (a : ℕ) (w : List ℕ) → rowBy (beforeRule a
 unfolding rowBy truths keeps
 row-step xs a w = ap padded (step-bits a w _ 0 (take 64 xs) (from-padded (map (kept w) (formulas 0 (take 64 xs)))))
 
+length-formulas : (n : ℕ) (xs : List Node) → length (formulas n xs) ≡ length xs
+length-formulas n [] = refl
+length-formulas n (x ∷ xs) = ap suc (length-formulas (suc n) xs)
+
+-- a row has 64 bits
+length-row : (h : Formula → Bool) (xs : List Node) → length (padded (map h (formulas 0 (take 64 xs)))) ≡ 64
+length-row h xs =
+    let bits = map h (formulas 0 (take 64 xs)) in
+    let long : length bits ≡ min 64 (length xs) = length-map (formulas 0 (take 64 xs)) h ∙ length-formulas 0 (take 64 xs) ∙ length-take 64 xs in
+    omega (arith, long, length-append bits (replicate (64 - length bits) false), length-replicate (64 - length bits) false)
+
+pub length-truths : (xs : List Node) (w : List ℕ) → length (truths xs w) ≡ 64
+unfolding truths
+length-truths xs w = length-row (true-on w) xs
+
+pub length-keeps : (xs : List Node) (w : List ℕ) → length (keeps xs w) ≡ 64
+unfolding keeps
+length-keeps xs w = length-row (kept w) xs
+
 -- the first bit is the truth of the whole formula
 pub row-first : (xs : List Node) (w : List ℕ) → getD (truths xs w) 0 false ≡ satisfied (formulaOf (take 64 xs)) w
 unfolding truths
 row-first xs w = getD-padded (map (true-on w) (formulas 0 (take 64 xs))) _ 0 ∙ getD-truths w (formulas 0 (take 64 xs)) 0
+
+-- a suffix is empty at the trace's end
+pub empty-drop : (t : List ℕ) (i : ℕ) → i ≤ length t → eqb i (length t) ≡ empty (drop i t)
+empty-drop t i l =
+    ⊎-elim
+    (λ e. eq-eqb i (length t) e ∙ sym (ap empty (drop-all i t (omega arith))))
+    (λ n. ne-eqb i (length t) n ∙ sym (ap empty (drop-more t i 0 (omega arith))))
+    (cases-eq i (length t))
+
+-- the suffix from the place before i
+pub drop-before : (t : List ℕ) (i : ℕ) → 0 < i → i ≤ length t → drop (i - 1) t ≡ getD t (i - 1) 0 ∷ drop i t
+drop-before t i p l =
+    let back : i - 1 + 1 ≡ i = omega arith in
+    drop-more t (i - 1) 0 (omega arith) ∙ ap (λ k. getD t (i - 1) 0 ∷ drop k t) back

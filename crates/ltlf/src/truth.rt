@@ -1,11 +1,13 @@
 // Whether a trace satisfies a task, in time proportional to the nodes times the trace's length.
 // The truth of every node is known on a suffix of the trace; actions are put in front of it, the last one first.
 ghost use mathlib.Core.Path.{_≡_};
-ghost use Prim.Native.Nat.{min};
+ghost use mathlib.Core.List.{List, [], _∷_};
+ghost use Prim.Native.Nat.{ℕ, min};
 ghost use lib.ListN.{length};
 ghost use Rattle.std.specs.Orderings.{Decides};
 ghost use Rattle.ltlf.specs.Meaning.{Satisfies};
-ghost use Rattle.ltlf.specs.Rows.{operand as operandBit, truthAtEnd, pendingOn, truthBefore, rowBy, endRule, pendingRule, beforeRule};
+ghost use Rattle.ltlf.specs.Rows.{operand as operandBit, truthAtEnd, pendingOn, truthBefore, rowBy, endRule, pendingRule, beforeRule, truths, keeps};
+ghost use Rattle.ltlf.specs.Suffix.{empty};
 ghost use Rattle.ltlf.specs.Tasks.{taskFormula};
 ghost use Rattle.ltlf.specs.Truth.{satisfied};
 use crate::node::Node;
@@ -87,7 +89,8 @@ fn counted(nodes: &[Node]) -> usize
 
 // The truth of every node on the empty trace.
 pub fn end_row(nodes: &[Node]) -> [bool; 64]
-    ensures { λ r. ⌜ r ≡ rowBy endRule (now (nodes .entry)) ⌝ }
+    ensures value { λ r. ⌜ r ≡ rowBy endRule (now (nodes .entry)) ⌝ }
+    ensures means { λ r. ⌜ r ≡ truths (now (nodes .entry)) [] ⌝ }
 {
     let mut here = [false; 64];
     for n in (0..counted(nodes)).rev() {
@@ -98,7 +101,8 @@ pub fn end_row(nodes: &[Node]) -> [bool; 64]
 
 // What every node keeps of a suffix whose row is `row`.
 pub fn pending_row(nodes: &[Node], row: &[bool; 64], ended: bool) -> [bool; 64]
-    ensures { λ r. ⌜ r ≡ rowBy (pendingRule (now (row .entry)) ended) (now (nodes .entry)) ⌝ }
+    ensures value { λ r. ⌜ r ≡ rowBy (pendingRule (now (row .entry)) ended) (now (nodes .entry)) ⌝ }
+    ensures means { λ r. ⌜ ((w : List ℕ) → now (row .entry) ≡ truths (now (nodes .entry)) w → ended ≡ empty w → r ≡ keeps (now (nodes .entry)) w) ⌝ }
 {
     let mut pending = [false; 64];
     for n in (0..counted(nodes)).rev() {
@@ -109,7 +113,8 @@ pub fn pending_row(nodes: &[Node], row: &[bool; 64], ended: bool) -> [bool; 64]
 
 // The truth of every node with `action` in front of a suffix of which the nodes kept `pending`.
 pub fn row_before(nodes: &[Node], action: u8, pending: &[bool; 64]) -> [bool; 64]
-    ensures { λ r. ⌜ r ≡ rowBy (beforeRule action (now (pending .entry))) (now (nodes .entry)) ⌝ }
+    ensures value { λ r. ⌜ r ≡ rowBy (beforeRule action (now (pending .entry))) (now (nodes .entry)) ⌝ }
+    ensures means { λ r. ⌜ ((w : List ℕ) → now (pending .entry) ≡ keeps (now (nodes .entry)) w → r ≡ truths (now (nodes .entry)) (action ∷ w)) ⌝ }
 {
     let mut here = [false; 64];
     for n in (0..counted(nodes)).rev() {
