@@ -5,3 +5,4 @@ pub mod Truth
 pub mod Meaning
 pub mod Suffix
 pub mod Rows
+pub mod Rules

@@ -1,4 +1,5 @@
 // Tasks: formulas of linear temporal logic on finite traces, their text and their truth.
 pub mod node;
+pub mod rules;
 pub mod task;
 pub mod truth;
