@@ -14,6 +14,9 @@ use crate::node::Node;
 use crate::task::MAX_SIGNS;
 use crate::task::Task;
 
+// One bit for each node, by the node's number; false past the nodes.
+pub type Row = [bool; MAX_SIGNS];
+
 // The bit of operand `i` of node `n`. An operand stands behind its sign; any other number has no bit.
 fn operand(row: &[bool], n: usize, i: u8) -> bool
     ensures { λ r. ⌜ r ≡ operandBit n (now (row .entry)) i ⌝ }
@@ -88,11 +91,11 @@ fn counted(nodes: &[Node]) -> usize
 }
 
 // The truth of every node on the empty trace.
-pub fn end_row(nodes: &[Node]) -> [bool; 64]
+pub fn end_row(nodes: &[Node]) -> Row
     ensures value { λ r. ⌜ r ≡ rowBy endRule (now (nodes .entry)) ⌝ }
     ensures means { λ r. ⌜ r ≡ truths (now (nodes .entry)) [] ⌝ }
 {
-    let mut here = [false; 64];
+    let mut here = [false; MAX_SIGNS];
     for n in (0..counted(nodes)).rev() {
         here[n] = truth_at_end(nodes[n], n, &here);
     }
@@ -100,11 +103,11 @@ pub fn end_row(nodes: &[Node]) -> [bool; 64]
 }
 
 // What every node keeps of a suffix whose row is `row`.
-pub fn pending_row(nodes: &[Node], row: &[bool; 64], ended: bool) -> [bool; 64]
+pub fn pending_row(nodes: &[Node], row: &Row, ended: bool) -> Row
     ensures value { λ r. ⌜ r ≡ rowBy (pendingRule (now (row .entry)) ended) (now (nodes .entry)) ⌝ }
     ensures means { λ r. ⌜ ((w : List ℕ) → now (row .entry) ≡ truths (now (nodes .entry)) w → ended ≡ empty w → r ≡ keeps (now (nodes .entry)) w) ⌝ }
 {
-    let mut pending = [false; 64];
+    let mut pending = [false; MAX_SIGNS];
     for n in (0..counted(nodes)).rev() {
         pending[n] = pending_on(nodes[n], n, row, row[n], ended);
     }
@@ -112,11 +115,11 @@ pub fn pending_row(nodes: &[Node], row: &[bool; 64], ended: bool) -> [bool; 64]
 }
 
 // The truth of every node with `action` in front of a suffix of which the nodes kept `pending`.
-pub fn row_before(nodes: &[Node], action: u8, pending: &[bool; 64]) -> [bool; 64]
+pub fn row_before(nodes: &[Node], action: u8, pending: &Row) -> Row
     ensures value { λ r. ⌜ r ≡ rowBy (beforeRule action (now (pending .entry))) (now (nodes .entry)) ⌝ }
     ensures means { λ r. ⌜ ((w : List ℕ) → now (pending .entry) ≡ keeps (now (nodes .entry)) w → r ≡ truths (now (nodes .entry)) (action ∷ w)) ⌝ }
 {
-    let mut here = [false; 64];
+    let mut here = [false; MAX_SIGNS];
     for n in (0..counted(nodes)).rev() {
         here[n] = truth_before(nodes[n], n, action, pending[n], &here);
     }
