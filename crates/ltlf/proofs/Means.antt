@@ -25,8 +25,8 @@ decided (until f g) t i =
     (λ w. (w .0, w .1, w .2, w .3 .0, w .3 .1))
     (λ w. (w .0, w .1, w .2, (w .3, w .4)))
     (some-to _ (λ j. Holds g t j × ((m : ℕ) → i ≤ m → m < j → Holds f t m))
-      (λ j. decides-and (holds g t j) (every-from i (j - i) (holds f t)) (decided g t j) (every-to (holds f t) (Holds f t) (decided f t) i j))
-      i (length t))
+    (λ j. decides-and (holds g t j) (every-from i (j - i) (holds f t)) (decided g t j) (every-to (holds f t) (Holds f t) (decided f t) i j))
+    i (length t))
 decided (release f g) t i =
     every-to _ (λ j. Holds g t j ⊎ ((m : ℕ) × (i ≤ m) × (m < j) × Holds f t m))
     (λ j. decides-or (holds g t j) (some-from i (j - i) (holds f t)) (decided g t j) (some-to (holds f t) (Holds f t) (decided f t) i j))

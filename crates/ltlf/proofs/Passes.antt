@@ -1,16 +1,16 @@
 -- A pass over the nodes from the last to the first: what the row holds while it goes on.
 use Prim.Native.Nat.{ℕ, zero, suc, min, _+_, _-_, _<_, _≤_}
 use mathlib.Core.Bool.{Bool, true, false, _&&_}
-use mathlib.Core.List.{List, [], _∷_, _++_, append-assoc}
-use mathlib.Core.Path.{_≡_, refl, sym, ap, ap₂, subst, _∙_}
+use mathlib.Core.List.{List, [], _∷_, _++_}
+use mathlib.Core.Path.{_≡_, refl, sym, ap, subst, _∙_}
 use native.Mathlib.Omega.{arith}
 use lib.Dec.{ltb}
 use lib.ListN.{length, getD, set, take, drop, replicate}
 use lib.Seq.{drop-cons}
-use Rattle.std.proofs.shelf.Lists.{length-replicate, length-set, length-append, length-take, replicate-append-replicate, getD-append-right, getD-take, set-at, drop-all}
+use Rattle.std.proofs.shelf.Lists.{length-replicate, length-set, length-take, replicate-append-replicate, getD-append-right, getD-take, set-at, drop-all}
 use Rattle.std.proofs.shelf.Tests.{ltb-true}
 use Rattle.ltlf.specs.declared.node.Node.{Node}
-use Rattle.ltlf.specs.Rows.{operand, bitBehind, bitsFrom, padded, rowBy}
+use Rattle.ltlf.specs.Rows.{operandBit, bitBehind, bitsFrom, rowBy}
 
 abbrev pub Rule : Type 0
 Rule = ℕ → (ℕ → Bool) → Node → Bool
@@ -38,7 +38,7 @@ replicate-end (suc n) tail = ap (λ l. false ∷ l) (replicate-end n tail)
 abbrev pub partly : Rule → List Node → ℕ → List Bool
 partly rule xs n = replicate n false ++ (bitsFrom rule n (drop n xs) ++ replicate (64 - length xs) false)
 
-operand-behind : (n m i : ℕ) (bits : List Bool) → operand n (replicate (suc n) false ++ (bits ++ replicate m false)) i ≡ bitBehind n bits i
+operand-behind : (n m i : ℕ) (bits : List Bool) → operandBit n (replicate (suc n) false ++ (bits ++ replicate m false)) i ≡ bitBehind n bits i
 operand-behind n m i bits = go (ltb n i) refl
   where
     go : (k : Bool) → ltb n i ≡ k → (k && getD (replicate (suc n) false ++ (bits ++ replicate m false)) i false) ≡ (k && getD bits (i - suc n) false)
@@ -57,29 +57,30 @@ module _ (rule : Rule) (nodes : List Node) where
       let xs = take 64 nodes in
       let all : length xs ≤ n = omega (arith, length-take 64 nodes, e) in
       let same : length xs ≡ n = length-take 64 nodes ∙ sym e in
-      let sum : n + (64 - n) ≡ 64 = omega (arith, e) in
-      (length-replicate 64 false,
-       sym (ap (λ l. replicate n false ++ (bitsFrom rule n l ++ replicate (64 - length xs) false)) (drop-all n xs all)
-         ∙ ap (λ k. replicate n false ++ replicate (64 - k) false) same
-         ∙ replicate-append-replicate n (64 - n) false
-         ∙ ap (λ k. replicate k false) sum))
+      let sum : n + (64 - n) ≡ 64 = omega (arith, e) in (
+        length-replicate 64 false,
+        sym (ap (λ l. replicate n false ++ (bitsFrom rule n l ++ replicate (64 - length xs) false)) (drop-all n xs all)
+            ∙ ap (λ k. replicate n false ++ replicate (64 - k) false) same
+            ∙ replicate-append-replicate n (64 - n) false
+            ∙ ap (λ k. replicate k false) sum),
+      )
 
-  turn-at : (n : ℕ) (here : List Bool) (v : Bool) (d : Node) → n < length (take 64 nodes) → here ≡ partly rule (take 64 nodes) (suc n) → v ≡ rule n (operand n here) (getD (take 64 nodes) n d) → set here n v ≡ partly rule (take 64 nodes) n
+  turn-at : (n : ℕ) (here : List Bool) (v : Bool) (d : Node) → n < length (take 64 nodes) → here ≡ partly rule (take 64 nodes) (suc n) → v ≡ rule n (operandBit n here) (getD (take 64 nodes) n d) → set here n v ≡ partly rule (take 64 nodes) n
   turn-at n here v d h e w =
       let xs = take 64 nodes in
       let m = 64 - length xs in
       let bits = bitsFrom rule (suc n) (drop (suc n) xs) in
       let tail = bits ++ replicate m false in
-      let at : operand n here ≡ bitBehind n bits = ap (operand n) e ∙ (λ k i. operand-behind n m i bits k) in
+      let at : operandBit n here ≡ bitBehind n bits = ap (operandBit n) e ∙ (λ k i. operand-behind n m i bits k) in
       ap (λ l. set l n v) (e ∙ replicate-end n tail)
       ∙ set-at (replicate n false) false tail v n (length-replicate n false)
       ∙ ap (λ b. replicate n false ++ (b ∷ tail)) (w ∙ ap (λ f. rule n f (getD xs n d)) at)
       ∙ sym (ap (λ l. replicate n false ++ (bitsFrom rule n l ++ replicate m false)) (drop-cons xs n d h))
 
-  pub turn : (n : ℕ) (here : List Bool) (v : Bool) (d : Node) → 0 < n → n ≤ min 64 (length nodes) → Working here n → v ≡ rule (n - 1) (operand (n - 1) here) (getD nodes (n - 1) d) → Working (set here (n - 1) v) (n - 1)
+  pub turn : (n : ℕ) (here : List Bool) (v : Bool) (d : Node) → 0 < n → n ≤ min 64 (length nodes) → Working here n → v ≡ rule (n - 1) (operandBit (n - 1) here) (getD nodes (n - 1) d) → Working (set here (n - 1) v) (n - 1)
   turn n here v d p l w e =
       let back : n ≡ suc (n - 1) = omega arith in
-      let whole = turn-at (n - 1) here v d (omega (arith, length-take 64 nodes)) (subst (λ k. here ≡ partly rule (take 64 nodes) k) back (w .1)) (e ∙ ap (rule (n - 1) (operand (n - 1) here)) (sym (getD-take 64 nodes (n - 1) d (omega arith)))) in
+      let whole = turn-at (n - 1) here v d (omega (arith, length-take 64 nodes)) (subst (λ k. here ≡ partly rule (take 64 nodes) k) back (w .1)) (e ∙ ap (rule (n - 1) (operandBit (n - 1) here)) (sym (getD-take 64 nodes (n - 1) d (omega arith)))) in
       (simp length-set (w .0), whole)
 
   pub ends : (n : ℕ) (here : List Bool) → n ≤ 0 → Working here n → here ≡ rowBy rule nodes

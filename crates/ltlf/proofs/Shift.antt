@@ -1,7 +1,6 @@
 -- One more action in front moves each place by one.
-use Prim.Native.Nat.{ℕ, suc}
+use Prim.Native.Nat.{suc}
 use mathlib.Core.Bool.{_||_, _&&_, not}
-use mathlib.Core.List.{_∷_}
 use mathlib.Core.Path.{ap, ap₂}
 use lib.ListN.{length, getD}
 use lib.Dec.{eqb, leb·suc-suc}

@@ -1,8 +1,8 @@
 -- The rows of the passes are rows of truths.
 use Prim.Native.Nat.{ℕ, zero, suc, min, _+_, _-_, _<_, _≤_}
 use mathlib.Core.Bool.{Bool, true, false, cond, _||_, _&&_, not}
-use mathlib.Core.List.{List, [], _∷_, _++_, map}
-use mathlib.Core.Path.{_≡_, refl, sym, ap, ap₂, subst, _∙_}
+use mathlib.Core.List.{List, [], _∷_, map}
+use mathlib.Core.Path.{_≡_, refl, sym, ap, ap₂, _∙_}
 use mathlib.Core.Logic.{⊎-elim}
 use native.Mathlib.Omega.{arith}
 use lib.Dec.{eqb, ltb}
@@ -15,7 +15,7 @@ use Rattle.ltlf.specs.Formula.{Formula, letter}
 use Rattle.ltlf.specs.Nodes.{formulas, ofNode, behind, falsum, formulaOf}
 use Rattle.ltlf.specs.Truth.{satisfied}
 use Rattle.ltlf.specs.Suffix.{empty, kept}
-use Rattle.ltlf.specs.Rows.{operand, bitBehind, bitsFrom, padded, rowBy, truthAtEnd, pendingOn, truthBefore, endRule, pendingRule, beforeRule, truths, keeps}
+use Rattle.ltlf.specs.Rows.{operandBit, bitBehind, bitsFrom, padded, rowBy, truthAtEnd, pendingOn, truthBefore, endRule, pendingRule, beforeRule, truths, keeps}
 use Rattle.ltlf.proofs.Step.{by-suffix}
 use Rattle.ltlf.proofs.Passes.{getD-padded}
 
@@ -104,7 +104,7 @@ from-padded bits k l =
     let same : k ≡ k - 0 = omega arith in
     getD-padded bits (64 - length bits) k ∙ ap (λ j. getD bits j false) same
 
-operand-from : (row : List Bool) (n i : ℕ) (bits : List Bool) → From row (suc n) bits → operand n row i ≡ bitBehind n bits i
+operand-from : (row : List Bool) (n i : ℕ) (bits : List Bool) → From row (suc n) bits → operandBit n row i ≡ bitBehind n bits i
 operand-from row n i bits h = go (ltb n i) refl
   where
     go : (k : Bool) → ltb n i ≡ k → (k && getD row i false) ≡ (k && getD bits (i - suc n) false)
@@ -125,8 +125,8 @@ kept-bits w row n (x ∷ xs) h =
     let own : Bool = satisfied (ofNode (behind n fs) x) w in
     let next = from-next row n own (map (true-on w) fs) h in
     ap₂ _∷_
-      (keep-node w (behind n fs) _ _ (λ i. operand-from row n i (map (true-on w) fs) next ∙ truth-behind w n fs i) x (from-here row n own (map (true-on w) fs) h))
-      (kept-bits w row (suc n) xs next)
+    (keep-node w (behind n fs) _ _ (λ i. operand-from row n i (map (true-on w) fs) next ∙ truth-behind w n fs i) x (from-here row n own (map (true-on w) fs) h))
+    (kept-bits w row (suc n) xs next)
 
 step-bits : (a : ℕ) (w : List ℕ) (pending : List Bool) (n : ℕ) (xs : List Node) → From pending n (map (kept w) (formulas n xs)) → bitsFrom (beforeRule a pending) n xs ≡ map (true-on (a ∷ w)) (formulas n xs)
 step-bits a w pending n [] h = refl
@@ -135,8 +135,8 @@ step-bits a w pending n (x ∷ xs) h =
     let own : Bool = kept w (ofNode (behind n fs) x) in
     let rest = step-bits a w pending (suc n) xs (from-next pending n own (map (kept w) fs) h) in
     ap₂ _∷_
-      (step-node a w (behind n fs) _ _ (λ i. ap (λ bits. bitBehind n bits i) rest ∙ truth-behind (a ∷ w) n fs i) x (from-here pending n own (map (kept w) fs) h))
-      rest
+    (step-node a w (behind n fs) _ _ (λ i. ap (λ bits. bitBehind n bits i) rest ∙ truth-behind (a ∷ w) n fs i) x (from-here pending n own (map (kept w) fs) h))
+    rest
 
 pub row-at-end : (xs : List Node) → rowBy endRule xs ≡ truths xs []
 unfolding rowBy truths

@@ -6,14 +6,13 @@ use lib.ListN.{length, getD, take, replicate}
 use lib.Dec.{eqb, ltb}
 use Rattle.ltlf.specs.declared.node.Node.{Node}
 use Rattle.ltlf.specs.declared.node.Node.the-variants as node
-use Rattle.ltlf.specs.Formula.{Formula}
 use Rattle.ltlf.specs.Nodes.{formulas}
 use Rattle.ltlf.specs.Truth.{satisfied}
 use Rattle.ltlf.specs.Suffix.{kept}
 
 -- the bit of the operand i of node n; an operand stands behind its sign, and elsewhere the bit is false
-abbrev pub operand : ℕ → List Bool → ℕ → Bool
-operand n row i = ltb n i && getD row i false
+abbrev pub operandBit : ℕ → List Bool → ℕ → Bool
+operandBit n row i = ltb n i && getD row i false
 
 -- the truth of a node on the empty trace, from the truth of its operands
 abbrev pub truthAtEnd : (ℕ → Bool) → Node → Bool
@@ -79,7 +78,7 @@ abbrev pub endRule : ℕ → (ℕ → Bool) → Node → Bool
 endRule n here x = truthAtEnd here x
 
 abbrev pub pendingRule : List Bool → Bool → ℕ → (ℕ → Bool) → Node → Bool
-pendingRule row ended n behind x = pendingOn (operand n row) (getD row n false) ended x
+pendingRule row ended n behind x = pendingOn (operandBit n row) (getD row n false) ended x
 
 abbrev pub beforeRule : ℕ → List Bool → ℕ → (ℕ → Bool) → Node → Bool
 beforeRule action pending n here x = truthBefore here action (getD pending n false) x

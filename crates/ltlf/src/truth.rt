@@ -6,7 +6,7 @@ ghost use Prim.Native.Nat.{ℕ, min};
 ghost use lib.ListN.{length};
 ghost use Rattle.std.specs.Orderings.{Decides};
 ghost use Rattle.ltlf.specs.Meaning.{Satisfies};
-ghost use Rattle.ltlf.specs.Rows.{operand as operandBit, truthAtEnd, pendingOn, truthBefore, rowBy, endRule, pendingRule, beforeRule, truths, keeps};
+ghost use Rattle.ltlf.specs.Rows.{operandBit, truthAtEnd, pendingOn, truthBefore, rowBy, endRule, pendingRule, beforeRule, truths, keeps};
 ghost use Rattle.ltlf.specs.Suffix.{empty};
 ghost use Rattle.ltlf.specs.Tasks.{taskFormula};
 ghost use Rattle.ltlf.specs.Truth.{satisfied};

@@ -1,6 +1,6 @@
-use mathlib.Core.Bool.{Bool, false, _&&_}
+use mathlib.Core.Bool.{false, _&&_}
 use mathlib.Core.Logic.{⊎-elim}
-use mathlib.Core.Path.{_≡_, sym, ap, _∙_}
+use mathlib.Core.Path.{sym, ap}
 use native.Mathlib.Omega.{arith}
 use lib.Dec.{ltb}
 use lib.ListN.{getD}
@@ -14,6 +14,6 @@ returns-else-n-at c =
     let i = c .args .i in
     let row = c .args .row .now in
     sym (⊎-elim
-      (λ w. and-right (ltb n i) (getD row i false) (getD-past row i false (omega (arith, w .1, c .from-at .ensures))))
-      (λ l. ap (λ b. b && getD row i false) (le-ltb n i (omega (arith, l, c .from-at .ensures))))
-      (c .else-n-at .either))
+    (λ w. and-right (ltb n i) (getD row i false) (getD-past row i false (omega (arith, w .1, c .from-at .ensures))))
+    (λ l. ap (λ b. b && getD row i false) (le-ltb n i (omega (arith, l, c .from-at .ensures))))
+    (c .else-n-at .either))

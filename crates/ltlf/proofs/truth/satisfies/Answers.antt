@@ -1,12 +1,12 @@
 use mathlib.Core.Bool.{false}
-use mathlib.Core.List.{List, []}
-use mathlib.Core.Path.{_≡_, sym, ap, ap₂, subst, _∙_}
-use Prim.Native.Nat.{ℕ, _+_, _-_, _≤_}
+use mathlib.Core.List.{[]}
+use mathlib.Core.Path.{_≡_, sym, ap, ap₂, _∙_}
+use Prim.Native.Nat.{_+_, _-_, _≤_}
 use native.Mathlib.Omega.{arith}
 use borrow.Author.Needs.{needs}
 use lib.Dec.{eqb}
 use lib.ListN.{length, getD, drop}
-use Rattle.std.specs.Of.Vec.{vec-items, vec-len}
+use Rattle.std.specs.Of.Vec.{vec-items}
 use Rattle.std.proofs.shelf.Lists.{drop-all, take-all}
 use Rattle.std.proofs.shelf.Ways.{decides-at}
 use Rattle.ltlf.specs.Nodes.{formulaOf}
@@ -45,7 +45,7 @@ returns c =
     let few : length items ≤ 64 = search needs in
     let none : c .loop-i .i ≡ 0 = omega arith in
     let whole : c .loop-i .row ≡ truths items trace =
-          c .loop-i .inv .1 ∙ ap₂ (λ xs k. truths xs (drop k trace)) (c .nodes-nodes .ensures) none in
+    c .loop-i .inv .1 ∙ ap₂ (λ xs k. truths xs (drop k trace)) (c .nodes-nodes .ensures) none in
     let value : getD (c .loop-i .row) 0 false ≡ satisfied (taskFormula (c .args .task .now)) trace =
-          ap (λ row. getD row 0 false) whole ∙ row-first items trace ∙ ap (λ xs. satisfied (formulaOf xs) trace) (take-all 64 items few) in
+    ap (λ row. getD row 0 false) whole ∙ row-first items trace ∙ ap (λ xs. satisfied (formulaOf xs) trace) (take-all 64 items few) in
     record { value = value; means = decides-at _ _ value (decided (taskFormula (c .args .task .now)) trace 0) }
