@@ -6,3 +6,8 @@ pub mod Endings
 pub mod Back
 pub mod Texts
 pub mod Tasking
+pub mod Means
+pub mod Shift
+pub mod Step
+pub mod Passes
+pub mod Suffixes

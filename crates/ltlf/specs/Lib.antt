@@ -3,3 +3,8 @@ pub mod Nodes
 pub mod Tasks
 pub mod Prefix
 pub mod Steps
+pub mod Truth
+pub mod Meaning
+pub mod Suffix
+pub mod Rows
+pub mod Rules

@@ -1,2 +1,4 @@
 pub mod Causes
 pub mod Groups
+pub mod Bounded
+pub mod Members

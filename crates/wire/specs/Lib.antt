@@ -1,3 +1,5 @@
 pub mod Refusals
 pub mod Number
 pub mod Reading
+pub mod Bounded
+pub mod Members
