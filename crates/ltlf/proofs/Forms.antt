@@ -3,6 +3,7 @@ use Prim.Native.Nat.{ℕ, suc, _+_, _-_, _<_, _≤_, max}
 use mathlib.Core.Bool.{Bool, true, false, cond}
 use mathlib.Core.List.{List, [], _∷_, _++_}
 use mathlib.Core.Path.{_≡_, refl, sym, ap, ap₂, subst, _∙_}
+use native.Mathlib.Nat.{zero-add, add-assoc}
 use native.Mathlib.Omega.{arith}
 use lib.ListN.{length, length-append}
 use Rattle.std.proofs.shelf.Ways.{tells}
@@ -13,8 +14,8 @@ use Rattle.ltlf.specs.declared.node.Node.the-variants as node
 use Rattle.ltlf.specs.declared.reader.Operands.{Operands}
 use Rattle.ltlf.specs.declared.reader.Operands.the-variants as operands
 use Rattle.ltlf.specs.Formula.{Formula, letter, neg, next, weak-next, eventually, always, conj, disj, implies, until, release, print, size, levels, temporals, Letters}
-use Rattle.ltlf.specs.Nodes.{flat}
-use Rattle.ltlf.specs.Prefix.{nodeOf, operandsOf, temporal, beyond}
+use Rattle.ltlf.specs.Nodes.{flat, temporal, temporalNodes}
+use Rattle.ltlf.specs.Prefix.{nodeOf, operandsOf, beyond}
 use Rattle.ltlf.specs.Steps.{withSecond}
 
 -- the byte and the first operand's number of a node that a byte gives
@@ -61,6 +62,27 @@ length-flat n (disj f g) = both-lengths (flat (suc n) f) (flat (suc n + size f) 
 length-flat n (implies f g) = both-lengths (flat (suc n) f) (flat (suc n + size f) g) (size f) (size g) (length-flat (suc n) f) (length-flat (suc n + size f) g)
 length-flat n (until f g) = both-lengths (flat (suc n) f) (flat (suc n + size f) g) (size f) (size g) (length-flat (suc n) f) (length-flat (suc n + size f) g)
 length-flat n (release f g) = both-lengths (flat (suc n) f) (flat (suc n + size f) g) (size f) (size g) (length-flat (suc n) f) (length-flat (suc n + size f) g)
+
+-- as many temporal nodes as temporal signs
+temporal-join : (xs ys : List Node) → temporalNodes (xs ++ ys) ≡ temporalNodes xs + temporalNodes ys
+temporal-join [] ys = sym (zero-add (temporalNodes ys))
+temporal-join (x ∷ xs) ys = ap (λ m. cond (temporal x) 1 0 + m) (temporal-join xs ys) ∙ sym (add-assoc (cond (temporal x) 1 0) (temporalNodes xs) (temporalNodes ys))
+
+both-temporal : (n m : ℕ) (f g : Formula) → temporalNodes (flat n f) ≡ temporals f → temporalNodes (flat m g) ≡ temporals g → temporalNodes (flat n f ++ flat m g) ≡ temporals f + temporals g
+both-temporal n m f g p q = temporal-join (flat n f) (flat m g) ∙ ap₂ _+_ p q
+
+pub temporal-flat : (n : ℕ) (f : Formula) → temporalNodes (flat n f) ≡ temporals f
+temporal-flat n (letter a) = refl
+temporal-flat n (neg f) = omega (arith, temporal-flat (suc n) f)
+temporal-flat n (next f) = omega (arith, temporal-flat (suc n) f)
+temporal-flat n (weak-next f) = omega (arith, temporal-flat (suc n) f)
+temporal-flat n (eventually f) = omega (arith, temporal-flat (suc n) f)
+temporal-flat n (always f) = omega (arith, temporal-flat (suc n) f)
+temporal-flat n (conj f g) = omega (arith, both-temporal (suc n) (suc n + size f) f g (temporal-flat (suc n) f) (temporal-flat (suc n + size f) g))
+temporal-flat n (disj f g) = omega (arith, both-temporal (suc n) (suc n + size f) f g (temporal-flat (suc n) f) (temporal-flat (suc n + size f) g))
+temporal-flat n (implies f g) = omega (arith, both-temporal (suc n) (suc n + size f) f g (temporal-flat (suc n) f) (temporal-flat (suc n + size f) g))
+temporal-flat n (until f g) = omega (arith, both-temporal (suc n) (suc n + size f) f g (temporal-flat (suc n) f) (temporal-flat (suc n + size f) g))
+temporal-flat n (release f g) = omega (arith, both-temporal (suc n) (suc n + size f) f g (temporal-flat (suc n) f) (temporal-flat (suc n + size f) g))
 
 -- h is the formula of a letter
 pub record Lone (k b n : ℕ) (x : Node) (h : Formula) : Type 0 where

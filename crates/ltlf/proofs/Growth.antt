@@ -16,8 +16,8 @@ use Rattle.ltlf.specs.declared.reader.Progress.{Progress}
 use Rattle.ltlf.specs.declared.reader.Operands.{Operands}
 use Rattle.ltlf.specs.declared.reader.Operands.the-variants as operands
 use Rattle.ltlf.specs.Formula.{Formula, print, size, levels, temporals, Letters}
-use Rattle.ltlf.specs.Nodes.{flat}
-use Rattle.ltlf.specs.Prefix.{strip, judge, owing, operandsOf, temporal}
+use Rattle.ltlf.specs.Nodes.{flat, temporal}
+use Rattle.ltlf.specs.Prefix.{strip, judge, owing, operandsOf}
 use Rattle.ltlf.specs.Steps.{withSecond, Taken, Grown, Grows, seen, next-verdict}
 use Rattle.ltlf.proofs.Forms.{spelt, length-flat, Lone, Before, Before-both, lone, before, before-both}
 

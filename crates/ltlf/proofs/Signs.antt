@@ -15,9 +15,10 @@ use Rattle.std.specs.declared.result.Result.the-variants.{Ok, Err}
 use Rattle.wire.specs.declared.refusal.Cause.{Cause}
 use Rattle.wire.specs.declared.refusal.Cause.the-variants as cause
 use Rattle.wire.specs.Refusals.{refused}
+use Rattle.ltlf.specs.Nodes.{temporal}
 use Rattle.ltlf.specs.declared.node.Node.{Node}
 use Rattle.ltlf.specs.declared.reader.Progress.{Progress}
-use Rattle.ltlf.specs.Prefix.{Seen, signNode, nodeOf, strip, beyond, temporal, limit, faultOf, after, judge, owing, operandsOf}
+use Rattle.ltlf.specs.Prefix.{Seen, signNode, nodeOf, strip, beyond, limit, faultOf, after, judge, owing, operandsOf}
 use Rattle.ltlf.specs.Steps.{Skipped, Taken, seen, next-verdict}
 use Rattle.ltlf.proofs.Judging.{sign-text, sign-refused, sign-taken, text-ends}
 

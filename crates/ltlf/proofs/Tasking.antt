@@ -16,11 +16,11 @@ use Rattle.wire.specs.declared.refusal.Refusal.{Refusal}
 use Rattle.wire.specs.Refusals.{refused}
 use Rattle.ltlf.specs.declared.node.Node.{Node}
 use Rattle.ltlf.specs.Formula.{Formula, size}
-use Rattle.ltlf.specs.Nodes.{flat, formulaOf}
+use Rattle.ltlf.specs.Nodes.{flat, formulaOf, temporalNodes}
 use Rattle.ltlf.specs.Prefix.{judge, start, inRange, verdict, Read}
 use Rattle.ltlf.specs.Steps.{Whole}
 use Rattle.ltlf.proofs.Back.{formula-back}
-use Rattle.ltlf.proofs.Forms.{length-flat}
+use Rattle.ltlf.proofs.Forms.{length-flat, temporal-flat}
 
 pub out-of-range : (k : ℕ) (bs : List ℕ) → false ≡ inRange k → verdict k bs ≡ Err (refused cause.ActionsOutOfRange 0)
 out-of-range k bs h = ap (λ a. cond a (judge k start 0 bs) (Err (refused cause.ActionsOutOfRange 0))) (sym h)
@@ -32,7 +32,7 @@ module _ (k : ℕ) (bs : List ℕ) (ys : List Node) (within : true ≡ inRange k
   some : 1 ≤ k
   some = leb-true 1 k (and-parts (leb 1 k) (leb k 16) (sym within) .0)
 
-  few : k ≤ 16
+  pub few : k ≤ 16
   few = leb-true k 16 (and-parts (leb 1 k) (leb k 16) (sym within) .1)
 
   pub well-read : (r : Result (Unit {0}) Refusal) → true ≡ isOk r → Whole k bs ys r → Read k bs r k ys
@@ -57,6 +57,10 @@ module _ (k : ℕ) (bs : List ℕ) (ys : List Node) (within : true ≡ inRange k
           ap formulaOf nodes ∙ formula-back f,
         ),
       )
+
+  pub mildly-read : (r : Result (Unit {0}) Refusal) → true ≡ isOk r → Whole k bs ys r → temporalNodes ys ≤ 7
+  mildly-read (Err e) t w = absurd (true≢false t)
+  mildly-read (Ok u) t w = omega (arith, ap temporalNodes (w .1 .2), temporal-flat 0 (w .1 .0), w .1 .6)
 
   pub ill-read : (r : Result (Unit {0}) Refusal) → false ≡ isOk r → Whole k bs ys r → (actions : ℕ) (zs : List Node) → actions ≡ 0 → zs ≡ [] → Read k bs r actions zs
   ill-read (Ok u) t w actions zs a z = absurd (true≢false (sym t))

@@ -13,12 +13,13 @@ use Rattle.std.specs.declared.option.Option.the-variants.{Some, None}
 use Rattle.std.specs.declared.result.Result.the-variants.{Ok, Err}
 use Rattle.wire.specs.declared.refusal.Cause.the-variants as cause
 use Rattle.wire.specs.Refusals.{refused}
+use Rattle.ltlf.specs.Nodes.{temporal}
 use Rattle.ltlf.specs.declared.node.Node.{Node}
 use Rattle.ltlf.specs.declared.node.Node.the-variants as node
 use Rattle.ltlf.specs.declared.reader.Operands.{Operands}
 use Rattle.ltlf.specs.declared.reader.Operands.the-variants as operands
 use Rattle.ltlf.specs.Formula.{Formula, letter, neg, next, weak-next, eventually, always, conj, disj, implies, until, release, print, size, levels, temporals, Letters, Fits}
-use Rattle.ltlf.specs.Prefix.{Seen, signNode, nodeOf, blank, strip, beyond, temporal, limit, faultOf, unless, after, owing, operandsOf, judge, start, verdict, Text-law}
+use Rattle.ltlf.specs.Prefix.{Seen, signNode, nodeOf, blank, strip, beyond, limit, faultOf, unless, after, owing, operandsOf, judge, start, verdict, Text-law}
 
 -- what has been seen, as in the verdict
 abbrev at : ℕ → ℕ → List ℕ → Seen

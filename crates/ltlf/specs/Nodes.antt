@@ -1,6 +1,6 @@
 -- A formula as a list of nodes, each before the nodes of its operands.
 use Prim.Native.Nat.{ℕ, suc, _+_, _-_}
-use mathlib.Core.Bool.{cond}
+use mathlib.Core.Bool.{Bool, true, false, cond}
 use mathlib.Core.List.{List, [], _∷_, _++_}
 use lib.ListN.{getD}
 use lib.Dec.{ltb}
@@ -52,3 +52,22 @@ formulas n (x ∷ xs) = ofNode (behind n (formulas (suc n) xs)) x ∷ formulas (
 -- the formula that nodes mean: that of the first
 abbrev pub formulaOf : List Node → Formula
 formulaOf xs = getD (formulas 0 xs) 0 falsum
+
+-- X N F G U R
+abbrev pub temporal : Node → Bool
+temporal (node.Action a) = false
+temporal (node.Not i) = false
+temporal (node.Next i) = true
+temporal (node.WeakNext i) = true
+temporal (node.Eventually i) = true
+temporal (node.Always i) = true
+temporal (node.And i j) = false
+temporal (node.Or i j) = false
+temporal (node.Implies i j) = false
+temporal (node.Until i j) = true
+temporal (node.Release i j) = true
+
+-- how many of the nodes are temporal signs
+abbrev pub temporalNodes : List Node → ℕ
+temporalNodes [] = 0
+temporalNodes (x ∷ xs) = cond (temporal x) 1 0 + temporalNodes xs

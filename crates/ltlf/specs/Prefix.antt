@@ -18,7 +18,7 @@ use Rattle.ltlf.specs.declared.node.Node.the-variants as node
 use Rattle.ltlf.specs.declared.reader.Operands.{Operands}
 use Rattle.ltlf.specs.declared.reader.Operands.the-variants as operands
 use Rattle.ltlf.specs.Formula.{Formula, print, Fits}
-use Rattle.ltlf.specs.Nodes.{flat, formulaOf}
+use Rattle.ltlf.specs.Nodes.{flat, formulaOf, temporal}
 
 -- The node of a sign or letter, with the number of its first operand; the second's is set once it is known.
 -- ! X N F G take one operand, & | > U R two, a to z none.
@@ -61,19 +61,6 @@ operandsOf (node.Or i j) = operands.Two
 operandsOf (node.Implies i j) = operands.Two
 operandsOf (node.Until i j) = operands.Two
 operandsOf (node.Release i j) = operands.Two
-
-abbrev pub temporal : Node → Bool
-temporal (node.Action a) = false
-temporal (node.Not i) = false
-temporal (node.Next i) = true
-temporal (node.WeakNext i) = true
-temporal (node.Eventually i) = true
-temporal (node.Always i) = true
-temporal (node.And i j) = false
-temporal (node.Or i j) = false
-temporal (node.Implies i j) = false
-temporal (node.Until i j) = true
-temporal (node.Release i j) = true
 
 -- a letter that is none of k actions
 abbrev pub beyond : ℕ → Node → Bool

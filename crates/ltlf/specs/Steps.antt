@@ -14,8 +14,8 @@ use Rattle.ltlf.specs.declared.node.Node.{Node}
 use Rattle.ltlf.specs.declared.node.Node.the-variants as node
 use Rattle.ltlf.specs.declared.reader.Progress.{Progress}
 use Rattle.ltlf.specs.Formula.{Formula, print, temporals, levels, Letters}
-use Rattle.ltlf.specs.Nodes.{flat}
-use Rattle.ltlf.specs.Prefix.{Seen, nodeOf, blank, strip, temporal, beyond, operandsOf, owing, judge, start}
+use Rattle.ltlf.specs.Nodes.{flat, temporal}
+use Rattle.ltlf.specs.Prefix.{Seen, nodeOf, blank, strip, beyond, operandsOf, owing, judge, start}
 
 -- the same node with the number of its second operand
 abbrev pub withSecond : Node → ℕ → Node

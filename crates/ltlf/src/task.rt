@@ -3,6 +3,7 @@ ghost use mathlib.Core.Path.{_≡_};
 ghost use mathlib.Core.List.{[]};
 ghost use Prim.Native.Nat.{_≤_};
 ghost use Rattle.std.specs.Of.Vec.{vec-items, vec-len};
+ghost use Rattle.ltlf.specs.Nodes.{temporalNodes};
 use crate::node::Node;
 use std::alloc::Global;
 
@@ -14,7 +15,9 @@ pub const MAX_SIGNS: usize = 64;
 pub struct Task {
     pub(crate) actions: u8,
     pub(crate) nodes: Vec<Node>,
+    ghost small: { actions ≤ 16 },
     ghost few: { vec-len nodes ≤ 64 },
+    ghost mild: { temporalNodes (vec-items nodes) ≤ 7 },
 }
 
 impl Task {

@@ -5,8 +5,8 @@ use native.Mathlib.Nat.{add-zero}
 use native.Mathlib.Omega.{arith}
 use lib.ListN.{getD}
 use Rattle.std.specs.declared.result.Result.the-variants.{Err}
+use Rattle.ltlf.specs.Nodes.{temporal}
 use Rattle.ltlf.specs.declared.reader.Progress.{Progress}
-use Rattle.ltlf.specs.Prefix.{temporal}
 use Rattle.ltlf.proofs.Signs.{text-ended, unknown, breaks, takes, of-byte}
 use Rattle.ltlf.proofs.reader.take_sign.Needs as need
 use Rattle.ltlf.proofs.reader.take_sign.Needs.{then-is-temporal, else-is-temporal}
