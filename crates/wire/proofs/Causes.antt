@@ -1,21 +1,17 @@
 -- No two causes have one number: a number leads back to its cause.
-use Prim.Native.Nat.{ℕ}
 use mathlib.Core.Path.{_≡_, refl, sym, ap, _∙_}
-use mathlib.Core.Bool.{cond}
 use mathlib.Core.List.{List, [], _∷_}
-use lib.Dec.{eqb}
+use lib.ListN.{getD}
 use Rattle.wire.specs.declared.refusal.Cause.{Cause}
 use Rattle.wire.specs.declared.refusal.Cause.the-variants as cause
 use Rattle.wire.specs.Refusals.{numberOf, Numbers-differ}
 
-abbrev find : ℕ → List Cause → Cause
-find n [] = cause.OutOfMemory
-find n (c ∷ cs) = cond (eqb n (numberOf c)) c (find n cs)
+-- the cause of each number; a number that is not used has any
+abbrev byNumber : List Cause
+byNumber =
+    cause.OutOfMemory ∷ cause.UnknownByte ∷ cause.FormulaComplete ∷ cause.LetterOutOfRange ∷ cause.TooManySigns ∷ cause.TooDeep ∷ cause.TooManyTemporal ∷ cause.Incomplete ∷ cause.ActionsOutOfRange ∷ cause.ActionsDiffer ∷ cause.OutOfMemory ∷ cause.BytesRunOut ∷ cause.NotANumber ∷ cause.OutsideField ∷ cause.BytesLeftOver ∷ cause.OutOfMemory ∷ cause.OutOfMemory ∷ cause.OutOfMemory ∷ cause.OutOfMemory ∷ cause.OutOfMemory ∷ cause.OutOfMemory ∷ cause.TooManyClasses ∷ cause.TooManyPositions ∷ cause.NoOrchestrator ∷ cause.OutputTooShort ∷ cause.NoFreeSlot ∷ cause.OutOfMemory ∷ cause.OutOfMemory ∷ cause.OutOfMemory ∷ cause.OutOfMemory ∷ cause.OutOfMemory ∷ cause.RowsNotAscending ∷ cause.RankAgainstDone ∷ cause.ChoiceUnplayable ∷ cause.NoStartRow ∷ cause.RankNotFalling ∷ cause.OutOfMemory ∷ cause.OutOfMemory ∷ cause.OutOfMemory ∷ cause.OutOfMemory ∷ cause.OutOfMemory ∷ cause.RunEnded ∷ cause.RunWaiting ∷ cause.SlipMismatch ∷ cause.NotAnOutcome ∷ cause.NoUsableRow ∷ cause.OutOfMemory ∷ cause.OutOfMemory ∷ cause.TooManyReports ∷ cause.OutOfMemory ∷ cause.OutOfMemory ∷ cause.StateNotInitial ∷ cause.ServicesDiffer ∷ cause.CannotPerform ∷ cause.RollLength ∷ cause.OutOfMemory ∷ cause.OutOfMemory ∷ cause.OutOfMemory ∷ cause.OutOfMemory ∷ cause.OutOfMemory ∷ cause.OutOfMemory ∷ cause.FileTooLong ∷ cause.FileMissing ∷ cause.OutOfMemory ∷ cause.OutOfMemory ∷ cause.OutOfMemory ∷ cause.OutOfMemory ∷ cause.OutOfMemory ∷ cause.OutOfMemory ∷ cause.OutOfMemory ∷ cause.OutOfMemory ∷ []
 
-abbrev causes : List Cause
-causes = cause.UnknownByte ∷ cause.FormulaComplete ∷ cause.LetterOutOfRange ∷ cause.TooManySigns ∷ cause.TooDeep ∷ cause.TooManyTemporal ∷ cause.Incomplete ∷ cause.ActionsOutOfRange ∷ cause.ActionsDiffer ∷ cause.BytesRunOut ∷ cause.NotANumber ∷ cause.OutsideField ∷ cause.BytesLeftOver ∷ cause.TooManyClasses ∷ cause.TooManyPositions ∷ cause.NoOrchestrator ∷ cause.OutputTooShort ∷ cause.NoFreeSlot ∷ cause.RowsNotAscending ∷ cause.RankAgainstDone ∷ cause.ChoiceUnplayable ∷ cause.NoStartRow ∷ cause.RankNotFalling ∷ cause.RunEnded ∷ cause.RunWaiting ∷ cause.SlipMismatch ∷ cause.NotAnOutcome ∷ cause.NoUsableRow ∷ cause.TooManyReports ∷ cause.StateNotInitial ∷ cause.ServicesDiffer ∷ cause.CannotPerform ∷ cause.RollLength ∷ cause.FileTooLong ∷ cause.FileMissing ∷ cause.OutOfMemory ∷ []
-
-found : (c : Cause) → find (numberOf c) causes ≡ c
+found : (c : Cause) → getD byNumber (numberOf c) cause.OutOfMemory ≡ c
 found cause.UnknownByte = refl
 found cause.FormulaComplete = refl
 found cause.LetterOutOfRange = refl
@@ -54,4 +50,4 @@ found cause.FileMissing = refl
 found cause.OutOfMemory = refl
 
 pub numbers-differ : Numbers-differ
-numbers-differ a b e = sym (found a) ∙ ap (λ n. find n causes) e ∙ found b
+numbers-differ a b e = sym (found a) ∙ ap (λ n. getD byNumber n cause.OutOfMemory) e ∙ found b

@@ -55,12 +55,18 @@ pub struct Refusal {
 }
 
 impl Cause {
-    // The refusal number.
+    fn discriminant(self) -> u8
+        ensures { λ r. ⌜ r ≡ numberOf self ⌝ }
+    {
+        self as u8
+    }
+
+    // The refusal number; no two causes have one.
     pub fn number(self) -> u8
         ensures number { λ r. ⌜ r ≡ numberOf self ⌝ }
         ensures apart { λ _. ⌜ Numbers-differ ⌝ }
     {
-        self as u8
+        self.discriminant()
     }
 
     // A refusal for this cause at `place`.
