@@ -1,2 +1,4 @@
 pub mod Causes
 pub mod Groups
+pub mod Loops
+pub mod Numbers
