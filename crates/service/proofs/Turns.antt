@@ -8,7 +8,7 @@ use Rattle.std.specs.declared.result.Result.the-variants.{Ok, Err}
 use Rattle.wire.specs.declared.refusal.Refusal.{Refusal}
 use Rattle.wire.specs.Reading.{andThen, steps}
 use Rattle.wire.proofs.Loops.{more, stops}
-use Rattle.service.specs.Reader.{slot}
+use Rattle.service.specs.File.{slot}
 
 module _ {P : Type 0} (d : P) (read : ℕ → P → Result (ℕ × P) Refusal) (n i at : ℕ) (xs : List P) (h : i < n) where
   pub slot-more : (to : ℕ) (p : P) → read at (getD xs i d) ≡ Ok (to, p) → steps (slot d read) (n - i) i (at, xs) ≡ steps (slot d read) (n - (i + 1)) (i + 1) (to, set xs i p)

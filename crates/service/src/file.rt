@@ -2,7 +2,7 @@
 ghost use mathlib.Core.Path.{_≡_};
 ghost use Prim.Native.Nat.{_≤_};
 ghost use Rattle.wire.specs.Reading.{filling, answer, left};
-ghost use Rattle.service.specs.Reader.{servicesOf, fileOf, zeroFile, Whole};
+ghost use Rattle.service.specs.File.{servicesOf, fileOf, zeroFile, Whole, Services-law};
 use crate::field::read_field;
 use crate::limits::MAX_ACTIONS;
 use crate::limits::MAX_SERVICES;
@@ -60,9 +60,10 @@ impl CommunityFile {
 }
 
 // Reads a services file into `out`, which is the zero file after any refusal.
-pub(crate) fn read_services(bytes: &[u8], out: &mut CommunityFile) -> Result<(), Refusal>
+pub fn read_services(bytes: &[u8], out: &mut CommunityFile) -> Result<(), Refusal>
     ensures says { λ r. ⌜ r ≡ answer (fileOf (now (bytes .entry))) ⌝ }
     ensures leaves { λ _. ⌜ now (out .exit) ≡ left zeroFile (fileOf (now (bytes .entry))) ⌝ }
+    ensures law { λ _. ⌜ Services-law (now (bytes .entry)) ⌝ }
 {
     *out = CommunityFile::zero();
     let r = out.fill_whole(bytes);

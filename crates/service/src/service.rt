@@ -2,7 +2,7 @@
 ghost use mathlib.Core.Path.{_≡_};
 ghost use Prim.Native.Nat.{_≤_};
 ghost use Rattle.wire.specs.Reading.{filling};
-ghost use Rattle.service.specs.Reader.{rowOf, tableOf, serviceOf, zeroService};
+ghost use Rattle.service.specs.File.{rowOf, tableOf, serviceOf, zeroService};
 use crate::field::full_set;
 use crate::field::read_field;
 use crate::limits::MAX_ACTIONS;

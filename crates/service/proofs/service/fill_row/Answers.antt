@@ -3,7 +3,7 @@ use native.Mathlib.Omega.{arith}
 use Rattle.std.specs.declared.result.Result.the-variants.{Ok, Err}
 use Rattle.wire.specs.Reading.{andThen}
 use Rattle.wire.proofs.Loops.{fails}
-use Rattle.service.specs.Reader.{entryOf, rowOf}
+use Rattle.service.specs.File.{entryOf, rowOf}
 use Rattle.service.proofs.Turns.{slot-more, slot-stops}
 use Rattle.service.proofs.service.fill_row.Needs as need
 

@@ -1,7 +1,7 @@
 use mathlib.Core.Path.{_≡_}
 use Prim.Native.Nat.{_-_}
 use Rattle.wire.specs.Reading.{steps}
-use Rattle.service.specs.Reader.{slot, entryOf}
+use Rattle.service.specs.File.{slot, entryOf}
 use Rattle.service.proofs.service.fill_row.Given as given
 
 abbrev pub Inv-loop-a : given.InvT-loop-a

@@ -3,7 +3,7 @@ use mathlib.Core.List.{[]}
 use native.Mathlib.Omega.{arith}
 use lib.ListN.{set}
 use Rattle.wire.proofs.Loops.{fails}
-use Rattle.service.specs.Reader.{rowOf, tableOf}
+use Rattle.service.specs.File.{rowOf, tableOf}
 use Rattle.service.proofs.Turns.{slot-more, slot-stops}
 use Rattle.service.proofs.service.fill_rows.Needs as need
 

@@ -2,7 +2,7 @@ use mathlib.Core.Path.{_≡_}
 use mathlib.Core.List.{[]}
 use Prim.Native.Nat.{_-_}
 use Rattle.wire.specs.Reading.{steps}
-use Rattle.service.specs.Reader.{slot, rowOf}
+use Rattle.service.specs.File.{slot, rowOf}
 use Rattle.service.proofs.service.fill_rows.Given as given
 
 abbrev pub Inv-loop-s : given.InvT-loop-s

@@ -2,7 +2,7 @@ use mathlib.Core.Path.{sym, _∙_}
 use native.Mathlib.Omega.{arith}
 use lib.ListN.{set}
 use Rattle.wire.proofs.Loops.{fails}
-use Rattle.service.specs.Reader.{serviceOf, servicesOf, noService}
+use Rattle.service.specs.File.{serviceOf, servicesOf, noService}
 use Rattle.service.proofs.Turns.{slot-more, slot-stops}
 use Rattle.service.proofs.file.CommunityFile.fill_services.Needs as need
 

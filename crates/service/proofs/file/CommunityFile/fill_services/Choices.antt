@@ -1,7 +1,7 @@
 use mathlib.Core.Path.{_≡_}
 use Prim.Native.Nat.{_-_}
 use Rattle.wire.specs.Reading.{steps}
-use Rattle.service.specs.Reader.{slot, serviceOf, noService}
+use Rattle.service.specs.File.{slot, serviceOf, noService}
 use Rattle.service.proofs.file.CommunityFile.fill_services.Given as given
 
 abbrev pub Inv-loop-i : given.InvT-loop-i

@@ -1,8 +1,8 @@
--- What the bytes of a services file say, number by number.
+-- The services file: what its bytes say, number by number, and the bytes of a file.
 use mathlib.Core.Path.{_≡_}
 use mathlib.Core.Bool.{cond}
-use mathlib.Core.List.{List, []}
-use Prim.Native.Nat.{ℕ, _-_, _^_}
+use mathlib.Core.List.{List, [], _++_}
+use Prim.Native.Nat.{ℕ, zero, suc, _+_, _-_, _^_, _<_, _≤_}
 use lib.ListN.{length, getD, set, replicate}
 use lib.Dec.{ltb}
 use Rattle.std.specs.declared.result.Result.{Result}
@@ -10,6 +10,7 @@ use Rattle.std.specs.declared.result.Result.the-variants.{Ok, Err}
 use Rattle.wire.specs.declared.refusal.Cause.the-variants as cause
 use Rattle.wire.specs.declared.refusal.Refusal.{Refusal}
 use Rattle.wire.specs.Refusals.{refused}
+use Rattle.wire.specs.Number.{groups}
 use Rattle.wire.specs.Reading.{andThen, steps}
 use Rattle.service.specs.declared.service.Service.{Service}
 use Rattle.service.specs.declared.file.CommunityFile.{CommunityFile}
@@ -70,3 +71,53 @@ fileOf bs =
 abbrev pub Whole : Result (Unit {0}) Refusal → CommunityFile → Result CommunityFile Refusal → Type 0
 Whole (Ok u) c q = q ≡ Ok c
 Whole (Err e) c q = q ≡ Err e
+
+-- n pieces one after another, numbered from i
+abbrev pub pieces : (ℕ → List ℕ) → ℕ → ℕ → List ℕ
+pieces f zero i = []
+pieces f (suc n) i = f i ++ pieces f n (i + 1)
+
+-- the entries of one state, for k actions
+abbrev pub rowBytes : ℕ → List ℕ → List ℕ
+rowBytes k row = pieces (λ a. groups (getD row a 0)) k 0
+
+-- a service: its states, initial state and final states, then its entries state by state and action by action
+abbrev pub serviceBytes : ℕ → Service → List ℕ
+serviceBytes k x =
+    groups (x .states) ++ (groups (x .initial) ++ (groups (x .finals) ++ pieces (λ s. rowBytes k (getD (x .entries) s [])) (x .states) 0))
+
+-- a file: the number of services, the number of actions, then each service
+abbrev pub bytesOf : CommunityFile → List ℕ
+bytesOf c =
+    groups (c .count) ++ (groups (c .actions) ++ pieces (λ i. serviceBytes (c .actions) (getD (c .services) i noService)) (c .count) 0)
+
+-- m places, of which the first n hold something good and the others a zero; d stands past the end
+pub record Filled {P : Type 0} (m n : ℕ) (d zeroed : P) (Good : P → Type 0) (xs : List P) : Type 0 where
+  pub long : length xs ≡ m
+  pub used : (i : ℕ) → i < n → Good (getD xs i d)
+  pub unused : (i : ℕ) → n ≤ i → i < m → getD xs i d ≡ zeroed
+
+-- k entries, each a set of states below n
+abbrev pub Row-within : ℕ → ℕ → List ℕ → Type 0
+Row-within n k row = Filled 16 k 0 0 (λ set. set < 2 ^ n) row
+
+-- a service of k actions with every number in its field
+pub record Service-within (k : ℕ) (x : Service) : Type 0 where
+  pub some-state : 1 ≤ x .states
+  pub few-states : x .states ≤ 16
+  pub initial : x .initial < x .states
+  pub finals : x .finals < 2 ^ x .states
+  pub entries : Filled 16 (x .states) [] zeroRow (Row-within (x .states) k) (x .entries)
+
+-- a file with every number in its field
+pub record Within (c : CommunityFile) : Type 0 where
+  pub some-service : 1 ≤ c .count
+  pub few-services : c .count ≤ 8
+  pub some-action : 1 ≤ c .actions
+  pub few-actions : c .actions ≤ 16
+  pub services : Filled 8 (c .count) noService zeroService (Service-within (c .actions)) (c .services)
+
+-- the accepted bytes are exactly those of the files with every number in its field
+pub record Services-law (bs : List ℕ) : Type 0 where
+  pub accepted : (c : CommunityFile) → fileOf bs ≡ Ok c → Within c × (bs ≡ bytesOf c)
+  pub accepts : (c : CommunityFile) → Within c → bs ≡ bytesOf c → fileOf bs ≡ Ok c
