@@ -3,6 +3,7 @@ ghost use mathlib.Core.Path.{_≡_};
 ghost use Prim.Native.Nat.{_≤_};
 ghost use Rattle.wire.specs.Reading.{filling};
 ghost use Rattle.service.specs.File.{rowOf, tableOf, serviceOf, zeroService};
+ghost use Rattle.service.specs.FileTables.{setAt};
 use crate::field::full_set;
 use crate::field::read_field;
 use crate::limits::MAX_ACTIONS;
@@ -29,6 +30,38 @@ impl Service {
             finals: 0,
             entries: [[0; MAX_ACTIONS]; MAX_STATES],
         }
+    }
+
+    pub fn states(&self) -> u8
+        ensures { λ r. ⌜ r ≡ now (self .entry) .states ⌝ }
+    {
+        self.states
+    }
+
+    pub fn initial(&self) -> u8
+        ensures { λ r. ⌜ r ≡ now (self .entry) .initial ⌝ }
+    {
+        self.initial
+    }
+
+    // The set of final states.
+    pub fn finals(&self) -> u16
+        ensures { λ r. ⌜ r ≡ now (self .entry) .finals ⌝ }
+    {
+        self.finals
+    }
+
+    // The set of next states from a state by an action.
+    pub fn entry(&self, state: u8, action: u8) -> u16
+        ensures { λ r. ⌜ r ≡ setAt (now (self .entry)) state action ⌝ }
+    {
+        let Some(row) = self.entries.get(state as usize) else {
+            return 0;
+        };
+        let Some(set) = row.get(action as usize) else {
+            return 0;
+        };
+        *set
     }
 }
 
