@@ -146,10 +146,12 @@ module _ (bs : List ℕ) where
       let a = field-taken at 1 16 n _ (g .some-state) (g .few-states) (omega (arith, g .few-states)) l (e ∙ sym (joins (groups n) (groups (x .initial)) (groups (x .finals)) _ rest)) in
       let b = field-taken (a .0) 0 (n - 1) (x .initial) _ (omega arith) (omega (arith, g .initial)) (omega (arith, g .initial, g .few-states)) (a .3) (a .2) in
       let f = field-taken (b .0) 0 (2 ^ n - 1) (x .finals) _ (omega arith) (omega (arith, g .finals)) (omega (arith, g .finals, w .1)) (b .3) (b .2) in
-      let t = filled-taken bs [] zeroRow (rowOf bs k (2 ^ n - 1)) (rowBytes k) (Row-within n k) (row-taken n k (g .few-states) m) 16 n (f .0) (x .entries) rest (g .few-states) (g .entries) (f .3) (f .2) in
-      (t .0,
+      let t = filled-taken bs [] zeroRow (rowOf bs k (2 ^ n - 1)) (rowBytes k) (Row-within n k) (row-taken n k (g .few-states) m) 16 n (f .0) (x .entries) rest (g .few-states) (g .entries) (f .3) (f .2) in (
+        t .0,
         goes (field bs at 1 16) _ (n, a .0) (t .0, x) (a .1) (goes (field bs (a .0) 0 (n - 1)) _ (x .initial, b .0) (t .0, x) (b .1) (goes (field bs (b .0) 0 (2 ^ n - 1)) _ (x .finals, f .0) (t .0, x) (f .1) (goes (tableOf bs n k (2 ^ n - 1) (f .0) (replicate 16 zeroRow)) _ (t .0, x .entries) (t .0, x) (t .1) refl))),
-        t .2, t .3)
+        t .2,
+        t .3,
+      )
 
   file-taken : (c : CommunityFile) → Within c → bs ≡ bytesOf c → fileOf bs ≡ Ok c
   file-taken c g e =

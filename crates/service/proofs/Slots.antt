@@ -54,8 +54,8 @@ module _ {P : Type 0} (bs : List ℕ) (d z : P) (read : ℕ → P → Result (�
         let first = one at mid p (ap (read at) (sym (l i (omega arith) (omega arith))) ∙ b .1) in
         let long = length-set xs i p in
         let rest = read-on n (i + 1) mid to (set xs i p) ys (omega arith)
-          (λ j k m. getD-set-other xs i j p d (λ x. omega arith) ∙ l j (omega arith) (omega arith))
-          (ap (steps (slot d read) n (i + 1)) q ∙ a .2) in
+        (λ j k m. getD-set-other xs i j p d (λ x. omega arith) ∙ l j (omega arith) (omega arith))
+        (ap (steps (slot d read) n (i + 1)) q ∙ a .2) in
         let here : getD ys i d ≡ p = rest .below i (omega arith) ∙ getD-set-same xs i p d (omega arith) in
         record {
           long = rest .long ∙ long;
@@ -68,12 +68,14 @@ module _ {P : Type 0} (bs : List ℕ) (d z : P) (read : ℕ → P → Result (�
     pub filled-read : (m n at to : ℕ) (ys : List P) → n ≤ m → slots d read n at (replicate m z) ≡ Ok (to, ys) → Filled m n d z Good ys × (drop at bs ≡ pieces (put ys) n 0 ++ drop to bs)
     filled-read m n at to ys h e =
         let long = length-replicate m z in
-        let r = read-on n 0 at to (replicate m z) ys (omega (arith, long)) (λ j k l. getD-replicate m j z d (omega (arith, long))) e in
-        (record {
+        let r = read-on n 0 at to (replicate m z) ys (omega (arith, long)) (λ j k l. getD-replicate m j z d (omega (arith, long))) e in (
+          record {
             long = r .long ∙ long;
             used = λ j k. r .good j (omega arith) (omega arith);
             unused = λ j k l. r .above j (omega arith) ∙ getD-replicate m j z d l;
-          }, r .bytes)
+          },
+          r .bytes,
+        )
 
   -- one slot that stands there
   abbrev pub Takes-slot : Type 0
@@ -89,9 +91,9 @@ module _ {P : Type 0} (bs : List ℕ) (d z : P) (read : ℕ → P → Result (�
         let w = one at p (pieces (put ys) n (i + 1) ++ rest) (good i (omega arith)) l (e ∙ append-assoc (G p) (pieces (put ys) n (i + 1)) rest) in
         let len = length-set xs i p in
         let v = take-on n (i + 1) (w .0) (set xs i p) ys rest (len ∙ long) (omega arith)
-          (λ j k. ⊎-elim (λ lt. getD-set-other xs i j p d (λ x. omega arith) ∙ below j lt) (λ ge. let x : i ≡ j = omega arith in subst (λ t. getD (set xs i p) t d ≡ getD ys t d) x (getD-set-same xs i p d (omega arith))) (cases-lt j i))
-          (λ j k m. getD-set-other xs i j p d (λ x. omega arith) ∙ blank j (omega arith) m)
-          (λ j k. good j (omega arith)) (λ j k m. unused j (omega arith) m) (w .3) (w .2) in
+        (λ j k. ⊎-elim (λ lt. getD-set-other xs i j p d (λ x. omega arith) ∙ below j lt) (λ ge. let x : i ≡ j = omega arith in subst (λ t. getD (set xs i p) t d ≡ getD ys t d) x (getD-set-same xs i p d (omega arith))) (cases-lt j i))
+        (λ j k m. getD-set-other xs i j p d (λ x. omega arith) ∙ blank j (omega arith) m)
+        (λ j k. good j (omega arith)) (λ j k m. unused j (omega arith) m) (w .3) (w .2) in
         let first : slot d read i (at, xs) ≡ Ok (w .0, set xs i p) = ap (λ r. andThen r (λ q. Ok (q .0, set xs i (q .1)))) (ap (read at) (blank i (omega arith) (omega arith)) ∙ w .1) in
         (v .0, ap (λ r. andThen r (steps (slot d read) n (i + 1))) first ∙ v .1, v .2, v .3)
 

@@ -8,7 +8,12 @@ use wire::refusal::Cause;
 use wire::refusal::Refusal;
 
 // The number at `at`, which lies from `low` to `high`, and where it ends.
-pub(crate) fn read_field(bytes: &[u8], at: usize, low: u16, high: u16) -> Result<(u16, usize), Refusal>
+pub(crate) fn read_field(
+    bytes: &[u8],
+    at: usize,
+    low: u16,
+    high: u16,
+) -> Result<(u16, usize), Refusal>
     ensures value { λ r. ⌜ r ≡ field (now (bytes .entry)) at low high ⌝ }
     ensures within { λ r. ⌜ made r (λ p. (low ≤ p .0) × (p .0 ≤ high)) ⌝ }
 {

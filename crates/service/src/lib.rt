@@ -5,3 +5,5 @@ pub mod file;
 pub mod limits;
 pub mod roll;
 pub mod service;
+#[cfg(test)]
+mod tests;

@@ -32,27 +32,27 @@ impl Service {
         }
     }
 
-    pub fn states(&self) -> u8
+    pub(crate) fn states(&self) -> u8
         ensures { λ r. ⌜ r ≡ now (self .entry) .states ⌝ }
     {
         self.states
     }
 
-    pub fn initial(&self) -> u8
+    pub(crate) fn initial(&self) -> u8
         ensures { λ r. ⌜ r ≡ now (self .entry) .initial ⌝ }
     {
         self.initial
     }
 
     // The set of final states.
-    pub fn finals(&self) -> u16
+    pub(crate) fn finals(&self) -> u16
         ensures { λ r. ⌜ r ≡ now (self .entry) .finals ⌝ }
     {
         self.finals
     }
 
     // The set of next states from a state by an action.
-    pub fn entry(&self, state: u8, action: u8) -> u16
+    pub(crate) fn entry(&self, state: u8, action: u8) -> u16
         ensures { λ r. ⌜ r ≡ setAt (now (self .entry)) state action ⌝ }
     {
         let Some(row) = self.entries.get(state as usize) else {
@@ -66,7 +66,13 @@ impl Service {
 }
 
 // Reads the entries of one state, one for each of `k` actions.
-fn fill_row(row: &mut [u16; MAX_ACTIONS], k: u16, high: u16, bytes: &[u8], at: usize) -> Result<usize, Refusal>
+fn fill_row(
+    row: &mut [u16; MAX_ACTIONS],
+    k: u16,
+    high: u16,
+    bytes: &[u8],
+    at: usize,
+) -> Result<usize, Refusal>
     requires { ⌜ k ≤ 16 ⌝ }
     ensures { λ r. ⌜ filling r (now (row .exit)) (rowOf (now (bytes .entry)) k high at (now (row .entry))) ⌝ }
 {

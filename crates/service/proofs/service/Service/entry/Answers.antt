@@ -11,6 +11,6 @@ returns-in-rest c =
     sym (ap (λ (row : List ℕ). getD row (c .args .action) 0) (getD-past (c .args .self .now .entries) (c .args .state) [] (c .in-rest .ensures tt .finds .3)))
 
 pub returns-in-rest-get : need.returns-in-rest-get
-returns-in-rest-get c = 
+returns-in-rest-get c =
     let row : c .in-Some .row .now ≡ getD (c .args .self .now .entries) (c .args .state) [] = search needs in
     sym (getD-past (c .in-Some .row .now) (c .args .action) 0 (c .in-rest-get .ensures tt .finds .3)) ∙ ap (λ (row : List ℕ). getD row (c .args .action) 0) row
