@@ -48,10 +48,7 @@ impl CommunityFile {
         if service >= self.count {
             return None;
         }
-        match self.services.get(service as usize) {
-            Some(x) => Some(x),
-            None => None,
-        }
+        self.services.get(service as usize)
     }
 
     pub fn states(&self, service: u8) -> u8
