@@ -54,6 +54,9 @@ ended i n e x y h =
     (λ ge. let b = le-ltb i n ge in (ge, cc))
     (cases-lt i n)
 
+ended-bytes : (bs : List ℕ) (at to : ℕ) (xs : List ℕ) → drop at bs ≡ xs ++ drop to bs → length bs ≤ to → drop at bs ≡ xs
+ended-bytes bs at to xs e h = e ∙ ap (λ ys. xs ++ ys) (drop-all to bs h) ∙ append-nil xs
+
 module _ (bs : List ℕ) where
   -- a field that stands there is read
   pub field-taken : (at low high v : ℕ) (rest : List ℕ) → low ≤ v → v ≤ high → v ≤ 65535 → at ≤ length bs → drop at bs ≡ groups v ++ rest → (to : ℕ) × (field bs at low high ≡ Ok (v, to)) × (drop to bs ≡ rest) × (to ≤ length bs)
@@ -127,7 +130,8 @@ module _ (bs : List ℕ) where
           few-actions = fb .1;
           services = r .0;
         } in
-        let stands : bs ≡ bytesOf y = fa .2 ∙ ap (λ x. groups n ++ x) (fb .2 ∙ ap (λ x. groups k ++ x) (r .1 ∙ ap (λ x. pieces (λ i. serviceBytes k (getD (t .0 .1) i noService)) n 0 ++ x) (drop-all (t .0 .0) bs (end .0)) ∙ append-nil _)) in
+        let rest : drop (b .0 .1) bs ≡ pieces (λ i. serviceBytes k (getD (t .0 .1) i noService)) n 0 = ended-bytes bs (b .0 .1) (t .0 .0) _ (r .1) (end .0) in
+        let stands : bs ≡ bytesOf y = fa .2 ∙ ap (λ x. groups n ++ x) (fb .2 ∙ ap (λ x. groups k ++ x) rest) in
         subst (λ x. Within x × (bs ≡ bytesOf x)) (end .1) (good, stands)
 
   entry-taken : (n : ℕ) → n ≤ 16 → Takes-slot bs 0 0 (entryOf bs (2 ^ n - 1)) groups (λ set. set < 2 ^ n)
@@ -148,7 +152,7 @@ module _ (bs : List ℕ) where
       let f = field-taken (b .0) 0 (2 ^ n - 1) (x .finals) _ (omega arith) (omega (arith, g .finals)) (omega (arith, g .finals, w .1)) (b .3) (b .2) in
       let t = filled-taken bs [] zeroRow (rowOf bs k (2 ^ n - 1)) (rowBytes k) (Row-within n k) (row-taken n k (g .few-states) m) 16 n (f .0) (x .entries) rest (g .few-states) (g .entries) (f .3) (f .2) in (
         t .0,
-        goes (field bs at 1 16) _ (n, a .0) (t .0, x) (a .1) (goes (field bs (a .0) 0 (n - 1)) _ (x .initial, b .0) (t .0, x) (b .1) (goes (field bs (b .0) 0 (2 ^ n - 1)) _ (x .finals, f .0) (t .0, x) (f .1) (goes (tableOf bs n k (2 ^ n - 1) (f .0) (replicate 16 zeroRow)) _ (t .0, x .entries) (t .0, x) (t .1) refl))),
+        goes (field bs at 1 16) _ (n, a .0) (t .0, x) (a .1) (goes (field bs (a .0) 0 (n - 1)) _ (x .initial, b .0) (t .0, x) (b .1) (goes (field bs (b .0) 0 (2 ^ n - 1)) _ (x .finals, f .0) (t .0, x) (f .1) (goes (tableOf bs n k (2 ^ n - 1) (f .0) (replicate 16 zeroRow)) _ (t .0, x .entries) (t .0, x) (t .1) (refl {a = Ok (t .0, x)})))),
         t .2,
         t .3,
       )

@@ -23,6 +23,7 @@ const EITHER: u16 = 3;
 const PAPER: u16 = 1;
 
 impl PaperRoll {
+    // The present state.
     fn paper(&self) -> u8
         ensures { λ r. ⌜ r ≡ stateOf (now (self .entry) .left) ⌝ }
     {
