@@ -2,3 +2,5 @@ pub mod Causes
 pub mod Groups
 pub mod Bounded
 pub mod Members
+pub mod Loops
+pub mod Numbers

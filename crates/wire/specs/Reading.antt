@@ -1,4 +1,5 @@
 -- Readers as functions into a result: one part after another, the first refusal ends it.
+use mathlib.Core.Path.{_≡_}
 use Prim.Native.Nat.{ℕ, zero, suc, _+_}
 use Rattle.std.specs.declared.result.Result.{Result}
 use Rattle.std.specs.declared.result.Result.the-variants.{Ok, Err}
@@ -22,3 +23,8 @@ answer (Err e) = Err e
 abbrev pub left : {X : Type 0} → X → Result X Refusal → X
 left zeroed (Ok x) = x
 left zeroed (Err e) = zeroed
+
+-- what an inner reader leaves that answered where it ends: after a refusal the output may hold anything
+abbrev pub filling : {X : Type 0} → Result ℕ Refusal → X → Result (ℕ × X) Refusal → Type 0
+filling (Ok n) x q = q ≡ Ok (n, x)
+filling (Err e) x q = q ≡ Err e

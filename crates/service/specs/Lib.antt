@@ -1,0 +1,5 @@
+pub mod Fields
+pub mod File
+pub mod Tables
+pub mod FileTables
+pub mod Roll
