@@ -7,7 +7,7 @@ use std::error::AnyError;
 use wire::refusal::RefusalDisplay;
 
 // roll LENGTH BYTES, where the bytes are service and action in turn
-pub fn performances(rt: &LibcRuntime, length: &str, word: &str) -> Result<(), AnyError> {
+pub(crate) fn performances(rt: &LibcRuntime, length: &str, word: &str) -> Result<(), AnyError> {
     let bytes = words::bytes(rt.alloc(), word)?;
     let mut roll = match PaperRoll::new(words::number(length)) {
         Ok(roll) => roll,

@@ -10,7 +10,7 @@ use wire::number::number_at;
 use wire::refusal::RefusalDisplay;
 
 // number BYTES
-pub fn number(rt: &LibcRuntime, word: &str) -> Result<(), AnyError> {
+pub(crate) fn number(rt: &LibcRuntime, word: &str) -> Result<(), AnyError> {
     let bytes = words::bytes(rt.alloc(), word)?;
     match number_at(bytes.as_slice(), 0) {
         Ok((value, _)) => println!(rt, "{value}")?,
@@ -20,7 +20,7 @@ pub fn number(rt: &LibcRuntime, word: &str) -> Result<(), AnyError> {
 }
 
 // task ACTIONS TEXT
-pub fn task(rt: &LibcRuntime, actions: &str, word: &str) -> Result<(), AnyError> {
+pub(crate) fn task(rt: &LibcRuntime, actions: &str, word: &str) -> Result<(), AnyError> {
     let text = words::bytes(rt.alloc(), word)?;
     let actions = (words::number(actions) & 255) as u8;
     let mut task = Task::zero(rt.alloc());
@@ -32,7 +32,7 @@ pub fn task(rt: &LibcRuntime, actions: &str, word: &str) -> Result<(), AnyError>
 }
 
 // satisfies ACTIONS TEXT TRACE
-pub fn satisfaction(
+pub(crate) fn satisfaction(
     rt: &LibcRuntime,
     actions: &str,
     word: &str,
@@ -53,7 +53,7 @@ pub fn satisfaction(
 }
 
 // services BYTES
-pub fn services(rt: &LibcRuntime, word: &str) -> Result<(), AnyError> {
+pub(crate) fn services(rt: &LibcRuntime, word: &str) -> Result<(), AnyError> {
     let bytes = words::bytes(rt.alloc(), word)?;
     let mut file = CommunityFile::zero();
     match read_services(bytes.as_slice(), &mut file) {

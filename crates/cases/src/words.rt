@@ -12,7 +12,7 @@ fn digit(b: u8) -> u8 {
 }
 
 // The bytes that a word spells, two digits to a byte.
-pub fn bytes(heap: Global, word: &str) -> Result<Vec<u8>, AllocError> {
+pub(crate) fn bytes(heap: Global, word: &str) -> Result<Vec<u8>, AllocError> {
     let mut out = Vec::new(heap);
     let mut high = None;
     for b in word.bytes() {
@@ -30,7 +30,7 @@ pub fn bytes(heap: Global, word: &str) -> Result<Vec<u8>, AllocError> {
 }
 
 // The number that a word spells, or 0.
-pub fn number(word: &str) -> u16 {
+pub(crate) fn number(word: &str) -> u16 {
     match word.parse::<u16>() {
         Ok(n) => n,
         Err(_) => 0,

@@ -50,7 +50,10 @@ fn sell(
     let mut actions = Vec::new(rt.alloc());
     for step in 0..MAX_STEPS {
         if satisfies(task, actions.as_slice()) && is_final(file, roll) {
-            println!(rt, "done: the actions satisfy the task, and the roll has paper")?;
+            println!(
+                rt,
+                "done: the actions satisfy the task, and the roll has paper"
+            )?;
             return Ok(());
         }
         let action = planned(roll);
@@ -59,7 +62,10 @@ fn sell(
             Ok(state) => {
                 let left = roll.left();
                 actions.push(action)?;
-                println!(rt, "step {step}: the roll {verb} and is in state {state}, {left} left")?;
+                println!(
+                    rt,
+                    "step {step}: the roll {verb} and is in state {state}, {left} left"
+                )?;
             }
             Err(refusal) => {
                 println!(rt, "step {step}: the roll {verb}: {refusal}")?;
