@@ -20,9 +20,8 @@ use Rattle.wire.specs.Reading.{andThen, steps}
 use Rattle.wire.specs.Number.{numberAt, groups}
 use Rattle.wire.proofs.Numbers.{Bytes, number-form, number-read}
 use Rattle.service.specs.declared.service.Service.{Service}
-use Rattle.service.specs.declared.file.CommunityFile.{CommunityFile}
 use Rattle.service.specs.Fields.{field, ranged}
-use Rattle.service.specs.File.{entryOf, rowOf, tableOf, serviceOf, servicesOf, fileOf, noService, zeroRow, zeroService, pieces, rowBytes, serviceBytes, bytesOf, Filled, Row-within, Service-within, Within, Services-law}
+use Rattle.service.specs.File.{Contents, entryOf, rowOf, tableOf, serviceOf, servicesOf, fileOf, noService, zeroRow, zeroService, pieces, rowBytes, serviceBytes, bytesOf, Filled, Row-within, Service-within, Within, Services-law}
 use Rattle.service.proofs.Slots.{passed, Reads-slot, filled-read, Takes-slot, filled-taken}
 
 in-range : (at low high : ℕ) (r : Result (ℕ × ℕ) Refusal) (p : ℕ × ℕ) → ranged at low high r ≡ Ok p → (r ≡ Ok p) × (low ≤ p .0) × (p .0 ≤ high)
@@ -111,14 +110,14 @@ module _ (bs : List ℕ) where
         let stands : drop at bs ≡ serviceBytes k y ++ drop (t .0 .0) bs = fa .2 ∙ ap (λ x. groups n ++ x) (fb .2 ∙ ap (λ x. groups (b .0 .0) ++ x) (ff .2 ∙ ap (λ x. groups (f .0 .0) ++ x) (r .1))) ∙ joins (groups n) (groups (b .0 .0)) (groups (f .0 .0)) _ _ in
         subst (λ (p : ℕ × Service). Service-within k (p .1) × (drop at bs ≡ serviceBytes k (p .1) ++ drop (p .0) bs)) q (good, stands)
 
-    file-read : (c : CommunityFile) → fileOf bs ≡ Ok c → Within c × (bs ≡ bytesOf c)
+    file-read : (c : Contents) → fileOf bs ≡ Ok c → Within c × (bs ≡ bytesOf c)
     file-read c e =
         let a = passed (field bs 0 1 8) _ c e in
         let n = a .0 .0 in
         let b = passed (field bs (a .0 .1) 1 16) _ c (a .2) in
         let k = b .0 .0 in
         let t = passed (servicesOf bs n k (b .0 .1) (replicate 8 zeroService)) _ c (b .2) in
-        let y : CommunityFile = record { count = n; actions = k; services = t .0 .1 } in
+        let y : Contents = record { count = n; actions = k; services = t .0 .1 } in
         let end = ended (t .0 .0) (length bs) _ y c (t .2) in
         let fa = field-read 0 1 8 (a .0) (a .1) in
         let fb = field-read (a .0 .1) 1 16 (b .0) (b .1) in
@@ -157,7 +156,7 @@ module _ (bs : List ℕ) where
         t .3,
       )
 
-  file-taken : (c : CommunityFile) → Within c → bs ≡ bytesOf c → fileOf bs ≡ Ok c
+  file-taken : (c : Contents) → Within c → bs ≡ bytesOf c → fileOf bs ≡ Ok c
   file-taken c g e =
       let n = c .count in
       let k = c .actions in

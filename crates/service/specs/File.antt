@@ -16,6 +16,15 @@ use Rattle.service.specs.declared.service.Service.{Service}
 use Rattle.service.specs.declared.file.CommunityFile.{CommunityFile}
 use Rattle.service.specs.Fields.{field}
 
+-- what a services file holds
+pub record Contents : Type 0 where
+  pub count : ℕ
+  pub actions : ℕ
+  pub services : List Service
+
+abbrev pub contents : CommunityFile → Contents
+contents c = record { count = c .count; actions = c .actions; services = c .services }
+
 -- slot i of a list is read over what stands there; d is what a place past the end would hold
 abbrev pub slot : {P : Type 0} → P → (ℕ → P → Result (ℕ × P) Refusal) → ℕ → ℕ × List P → Result (ℕ × List P) Refusal
 slot d read i x = andThen (read (x .0) (getD (x .1) i d)) (λ p. Ok (p .0, set (x .1) i (p .1)))
@@ -56,11 +65,11 @@ zeroRow = replicate 16 0
 abbrev pub zeroService : Service
 zeroService = record { states = 1; initial = 0; finals = 0; entries = replicate 16 zeroRow }
 
-abbrev pub zeroFile : CommunityFile
+abbrev pub zeroFile : Contents
 zeroFile = record { count = 1; actions = 1; services = replicate 8 zeroService }
 
 -- the file that the bytes hold
-abbrev pub fileOf : List ℕ → Result CommunityFile Refusal
+abbrev pub fileOf : List ℕ → Result Contents Refusal
 fileOf bs =
     andThen (field bs 0 1 8) (λ n.
     andThen (field bs (n .1) 1 16) (λ k.
@@ -68,7 +77,7 @@ fileOf bs =
     cond (ltb (x .0) (length bs)) (Err (refused cause.BytesLeftOver (x .0))) (Ok (record { count = n .0; actions = k .0; services = x .1 })))))
 
 -- what reading into a zeroed file leaves; after a refusal it may hold anything
-abbrev pub Whole : Result (Unit {0}) Refusal → CommunityFile → Result CommunityFile Refusal → Type 0
+abbrev pub Whole : Result (Unit {0}) Refusal → Contents → Result Contents Refusal → Type 0
 Whole (Ok u) c q = q ≡ Ok c
 Whole (Err e) c q = q ≡ Err e
 
@@ -87,7 +96,7 @@ serviceBytes k x =
     groups (x .states) ++ (groups (x .initial) ++ (groups (x .finals) ++ pieces (λ s. rowBytes k (getD (x .entries) s [])) (x .states) 0))
 
 -- a file: the number of services, the number of actions, then each service
-abbrev pub bytesOf : CommunityFile → List ℕ
+abbrev pub bytesOf : Contents → List ℕ
 bytesOf c =
     groups (c .count) ++ (groups (c .actions) ++ pieces (λ i. serviceBytes (c .actions) (getD (c .services) i noService)) (c .count) 0)
 
@@ -110,7 +119,7 @@ pub record Service-within (k : ℕ) (x : Service) : Type 0 where
   pub entries : Filled 16 (x .states) [] zeroRow (Row-within (x .states) k) (x .entries)
 
 -- a file with every number in its field
-pub record Within (c : CommunityFile) : Type 0 where
+pub record Within (c : Contents) : Type 0 where
   pub some-service : 1 ≤ c .count
   pub few-services : c .count ≤ 8
   pub some-action : 1 ≤ c .actions
@@ -119,5 +128,5 @@ pub record Within (c : CommunityFile) : Type 0 where
 
 -- the accepted bytes are exactly those of the files with every number in its field
 pub record Services-law (bs : List ℕ) : Type 0 where
-  pub accepted : (c : CommunityFile) → fileOf bs ≡ Ok c → Within c × (bs ≡ bytesOf c)
-  pub accepts : (c : CommunityFile) → Within c → bs ≡ bytesOf c → fileOf bs ≡ Ok c
+  pub accepted : (c : Contents) → fileOf bs ≡ Ok c → Within c × (bs ≡ bytesOf c)
+  pub accepts : (c : Contents) → Within c → bs ≡ bytesOf c → fileOf bs ≡ Ok c

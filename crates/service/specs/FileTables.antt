@@ -10,21 +10,20 @@ use lib.Dec.{ltb}
 use lib.Pow.{pow-pos}
 use Rattle.std.proofs.shelf.Tests.{cases-lt, lt-ltb, le-ltb, ltb-true, and-parts, and-left, and-right, cond-true, cond-false, cond-both}
 use Rattle.service.specs.declared.service.Service.{Service}
-use Rattle.service.specs.declared.file.CommunityFile.{CommunityFile}
-use Rattle.service.specs.File.{noService, Within, Service-within}
+use Rattle.service.specs.File.{Contents, noService, Within, Service-within}
 use Rattle.service.specs.Tables.{Tables, Lawful}
 
 -- service s of the file, with no states past the last one
-abbrev pub serviceAt : CommunityFile → ℕ → Service
+abbrev pub serviceAt : Contents → ℕ → Service
 serviceAt c s = cond (ltb s (c .count)) (getD (c .services) s noService) noService
 
 abbrev pub setAt : Service → ℕ → ℕ → ℕ
 setAt x q a = getD (getD (x .entries) q []) a 0
 
-abbrev pub entryIn : CommunityFile → ℕ → ℕ → ℕ → ℕ
+abbrev pub entryIn : Contents → ℕ → ℕ → ℕ → ℕ
 entryIn c s q a = cond (ltb q (serviceAt c s .states) && ltb a (c .actions)) (setAt (serviceAt c s) q a) 0
 
-abbrev pub tablesOf : CommunityFile → Tables
+abbrev pub tablesOf : Contents → Tables
 tablesOf c = record {
   services = c .count;
   actions = c .actions;
@@ -32,14 +31,14 @@ tablesOf c = record {
   entry = entryIn c;
 }
 
-abbrev pub initialOf : CommunityFile → ℕ → ℕ
+abbrev pub initialOf : Contents → ℕ → ℕ
 initialOf c s = serviceAt c s .initial
 
-abbrev pub finalsOf : CommunityFile → ℕ → ℕ
+abbrev pub finalsOf : Contents → ℕ → ℕ
 finalsOf c s = serviceAt c s .finals
 
 -- a file with every number in its field gives lawful tables, with each service in its initial state
-module _ (c : CommunityFile) (w : Within c) where
+module _ (c : Contents) (w : Within c) where
   used : (s : ℕ) → s < c .count → serviceAt c s ≡ getD (c .services) s noService
   used s h = cond-true (ltb s (c .count)) (getD (c .services) s noService) noService (lt-ltb s (c .count) h)
 

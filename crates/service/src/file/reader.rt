@@ -2,7 +2,7 @@
 ghost use mathlib.Core.Path.{_≡_};
 ghost use Prim.Native.Nat.{_≤_};
 ghost use Rattle.wire.specs.Reading.{filling, answer, left};
-ghost use Rattle.service.specs.File.{servicesOf, fileOf, zeroFile, Whole, Services-law};
+ghost use Rattle.service.specs.File.{contents, servicesOf, fileOf, zeroFile, Whole, Services-law};
 use super::CommunityFile;
 use crate::field::read_field;
 use crate::limits::MAX_ACTIONS;
@@ -26,8 +26,8 @@ impl CommunityFile {
 
     // Reads the whole file into a zeroed one.
     fn fill_whole(&mut self, bytes: &[u8]) -> Result<(), Refusal>
-        requires { ⌜ now self ≡ zeroFile ⌝ }
-        ensures { λ r. ⌜ Whole r (now (self .exit)) (fileOf (now (bytes .entry))) ⌝ }
+        requires { ⌜ contents (now self) ≡ zeroFile ⌝ }
+        ensures { λ r. ⌜ Whole r (contents (now (self .exit))) (fileOf (now (bytes .entry))) ⌝ }
     {
         let (n, second) = read_field(bytes, 0, 1, MAX_SERVICES as u16)?;
         let (k, third) = read_field(bytes, second, 1, MAX_ACTIONS as u16)?;
@@ -44,7 +44,7 @@ impl CommunityFile {
 // Reads a services file into `out`, which is the zero file after any refusal.
 pub fn read_services(bytes: &[u8], out: &mut CommunityFile) -> Result<(), Refusal>
     ensures says { λ r. ⌜ r ≡ answer (fileOf (now (bytes .entry))) ⌝ }
-    ensures leaves { λ _. ⌜ now (out .exit) ≡ left zeroFile (fileOf (now (bytes .entry))) ⌝ }
+    ensures leaves { λ _. ⌜ contents (now (out .exit)) ≡ left zeroFile (fileOf (now (bytes .entry))) ⌝ }
     ensures law { λ _. ⌜ Services-law (now (bytes .entry)) ⌝ }
 {
     *out = CommunityFile::zero();
