@@ -20,7 +20,7 @@ use Rattle.wire.specs.Reading.{andThen, steps}
 use Rattle.wire.specs.Number.{numberAt, groups}
 use Rattle.wire.proofs.Numbers.{Bytes, number-form, number-read}
 use Rattle.service.specs.declared.service.Service.{Service}
-use Rattle.service.specs.Fields.{field, ranged}
+use Rattle.wire.specs.Fields.{field, ranged}
 use Rattle.service.specs.File.{Contents, entryOf, rowOf, tableOf, serviceOf, servicesOf, fileOf, noService, zeroRow, zeroService, pieces, rowBytes, serviceBytes, bytesOf, Filled, Row-within, Service-within, Within, Services-law}
 use Rattle.service.proofs.Slots.{passed, Reads-slot, filled-read, Takes-slot, filled-taken}
 

@@ -14,7 +14,7 @@ use Rattle.wire.specs.Number.{groups}
 use Rattle.wire.specs.Reading.{andThen, steps}
 use Rattle.service.specs.declared.service.Service.{Service}
 use Rattle.service.specs.declared.file.CommunityFile.{CommunityFile}
-use Rattle.service.specs.Fields.{field}
+use Rattle.wire.specs.Fields.{field}
 
 -- what a services file holds
 pub record Contents : Type 0 where

@@ -1,4 +1,3 @@
-pub mod Fields
 pub mod File
 pub mod Tables
 pub mod FileTables

@@ -4,10 +4,10 @@ ghost use Prim.Native.Nat.{_≤_};
 ghost use Rattle.wire.specs.Reading.{filling};
 ghost use Rattle.service.specs.File.{rowOf, tableOf, serviceOf, zeroService};
 ghost use Rattle.service.specs.FileTables.{setAt};
-use crate::field::full_set;
-use crate::field::read_field;
 use crate::limits::MAX_ACTIONS;
 use crate::limits::MAX_STATES;
+use crate::sets::full_set;
+use wire::field::read_field;
 use wire::refusal::Refusal;
 
 #[derive(Clone, Copy)]

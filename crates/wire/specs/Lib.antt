@@ -3,3 +3,4 @@ pub mod Number
 pub mod Reading
 pub mod Bounded
 pub mod Members
+pub mod Fields

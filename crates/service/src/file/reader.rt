@@ -4,10 +4,10 @@ ghost use Prim.Native.Nat.{_≤_};
 ghost use Rattle.wire.specs.Reading.{filling, answer, left};
 ghost use Rattle.service.specs.File.{contents, servicesOf, fileOf, zeroFile, Whole, Services-law};
 use super::CommunityFile;
-use crate::field::read_field;
 use crate::limits::MAX_ACTIONS;
 use crate::limits::MAX_SERVICES;
 use crate::service::fill;
+use wire::field::read_field;
 use wire::refusal::Cause;
 use wire::refusal::Refusal;
 
