@@ -64,4 +64,4 @@ module _ (k : ℕ) (bs : List ℕ) (ys : List Node) (within : true ≡ inRange k
 
   pub ill-read : (r : Result (Unit {0}) Refusal) → false ≡ isOk r → Whole k bs ys r → (actions : ℕ) (zs : List Node) → actions ≡ 0 → zs ≡ [] → Read k bs r actions zs
   ill-read (Ok u) t w actions zs a z = absurd (true≢false (sym t))
-  ill-read (Err e) t w actions zs a z = (⊎-elim (λ h. inl (in-range ∙ h)) inr w, a, z)
+  ill-read (Err e) t w actions zs a z = (⊎-elim (λ h. inl (in-range ∙ h)) (λ m. inr (m, sym within)) w, a, z)

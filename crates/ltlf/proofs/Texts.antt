@@ -10,8 +10,11 @@ use Rattle.std.proofs.shelf.Ways.{tells}
 use Rattle.std.proofs.shelf.Tests.{lt-leb}
 use Rattle.std.specs.declared.option.Option.{Option}
 use Rattle.std.specs.declared.option.Option.the-variants.{Some, None}
+use Rattle.std.specs.declared.result.Result.{Result}
 use Rattle.std.specs.declared.result.Result.the-variants.{Ok, Err}
+use Rattle.wire.specs.declared.refusal.Cause.{Cause}
 use Rattle.wire.specs.declared.refusal.Cause.the-variants as cause
+use Rattle.wire.specs.declared.refusal.Refusal.{Refusal}
 use Rattle.wire.specs.Refusals.{refused}
 use Rattle.ltlf.specs.Nodes.{temporal}
 use Rattle.ltlf.specs.declared.node.Node.{Node}
@@ -19,7 +22,7 @@ use Rattle.ltlf.specs.declared.node.Node.the-variants as node
 use Rattle.ltlf.specs.declared.reader.Operands.{Operands}
 use Rattle.ltlf.specs.declared.reader.Operands.the-variants as operands
 use Rattle.ltlf.specs.Formula.{Formula, letter, neg, next, weak-next, eventually, always, conj, disj, implies, until, release, print, size, levels, temporals, Letters, Fits}
-use Rattle.ltlf.specs.Prefix.{Seen, signNode, nodeOf, blank, strip, beyond, limit, faultOf, unless, after, owing, operandsOf, judge, start, verdict, Text-law}
+use Rattle.ltlf.specs.Prefix.{Seen, signNode, nodeOf, blank, strip, beyond, limit, faultOf, unless, after, owing, operandsOf, ended, judge, start, inRange, verdict, causeOf, Text-law}
 
 -- what has been seen, as in the verdict
 abbrev at : ℕ → ℕ → List ℕ → Seen
@@ -248,5 +251,28 @@ one-formula k bs f g v w p q =
     let back′ = front-of k (w .few-actions) m g (w .letters) (omega arith) [] in
     ap (found f) (sym back ∙ ap (λ t. front m (t ++ [])) (sym p ∙ q) ∙ back′)
 
+-- the cause is that of the text without blanks, wherever it stands
+cause-strip : (k : ℕ) (s : Seen) (i j : ℕ) (bs : List ℕ) → causeOf (judge k s i bs) ≡ causeOf (judge k s j (strip bs))
+cause-strip k s i j [] = go (s .owed) where
+  go : (ds : List ℕ) → causeOf (ended ds i) ≡ causeOf (ended ds j)
+  go [] = refl
+  go (d ∷ ds) = refl
+cause-strip k s i j (b ∷ bs) = go (blank b) refl (cause-strip k s (suc i) j bs) (λ o. cause-strip k (after s o) (suc i) (suc j) bs) where
+  fault : (f : Option Cause) (x y : Result (Unit {0}) Refusal) → causeOf x ≡ causeOf y → causeOf (unless f i x) ≡ causeOf (unless f j y)
+  fault None x y e = e
+  fault (Some c) x y e = refl
+
+  go : (a : Bool) → blank b ≡ a → causeOf (judge k s (suc i) bs) ≡ causeOf (judge k s j (strip bs)) → ((o : Option Node) → causeOf (judge k (after s o) (suc i) bs) ≡ causeOf (judge k (after s o) (suc j) (strip bs))) → causeOf (cond a (judge k s (suc i) bs) (unless (faultOf k s (nodeOf b (suc (s .signs)))) i (judge k (after s (nodeOf b (suc (s .signs)))) (suc i) bs))) ≡ causeOf (judge k s j (cond a (strip bs) (b ∷ strip bs)))
+  go true p same onward = same
+  go false p same onward =
+      fault (faultOf k s (nodeOf b (suc (s .signs)))) _ _ (onward (nodeOf b (suc (s .signs))))
+      ∙ sym (ap (λ a. causeOf (cond a (judge k s (suc j) (strip bs)) (unless (faultOf k s (nodeOf b (suc (s .signs)))) j (judge k (after s (nodeOf b (suc (s .signs)))) (suc j) (strip bs))))) p)
+
+blanks : (k : ℕ) (bs cs : List ℕ) → strip cs ≡ strip bs → causeOf (verdict k cs) ≡ causeOf (verdict k bs)
+blanks k bs cs e = go (inRange k) where
+  go : (a : Bool) → causeOf (cond a (judge k start 0 cs) (Err (refused cause.ActionsOutOfRange 0))) ≡ causeOf (cond a (judge k start 0 bs) (Err (refused cause.ActionsOutOfRange 0)))
+  go true = cause-strip k start 0 0 cs ∙ ap (λ t. causeOf (judge k start 0 t)) e ∙ sym (cause-strip k start 0 0 bs)
+  go false = refl
+
 pub text-law : (k : ℕ) (bs : List ℕ) → Text-law k bs
-text-law k bs = record { accepts = accepts k bs; one-formula = one-formula k bs }
+text-law k bs = record { accepts = accepts k bs; one-formula = one-formula k bs; blanks = blanks k bs }

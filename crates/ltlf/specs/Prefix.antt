@@ -148,9 +148,17 @@ abbrev pub Read : ℕ → List ℕ → Result (Unit {0}) Refusal → ℕ → Lis
 Read k bs (Ok u) actions nodes =
     (verdict k bs ≡ Ok u) × (actions ≡ k)
     × ((f : Formula) × (strip bs ≡ print f) × Fits k f × (nodes ≡ flat 0 f) × (formulaOf nodes ≡ f))
-Read k bs (Err e) actions nodes = ((verdict k bs ≡ Err e) ⊎ (e ≡ noMemory)) × (actions ≡ 0) × (nodes ≡ [])
+Read k bs (Err e) actions nodes = ((verdict k bs ≡ Err e) ⊎ ((e ≡ noMemory) × (inRange k ≡ true))) × (actions ≡ 0) × (nodes ≡ [])
 
--- Every prefix text of a formula within the limits is accepted, and a text has one such formula at most.
+-- a verdict without its place
+abbrev pub causeOf : Result (Unit {0}) Refusal → Option Cause
+causeOf (Ok u) = None
+causeOf (Err e) = Some (e .cause)
+
+-- Every prefix text of a formula within the limits is accepted, a text has one such formula at most,
+-- and blanks between signs do not matter.
 pub record Text-law (k : ℕ) (bs : List ℕ) : Type 0 where
   pub accepts : (f : Formula) → Fits k f → strip bs ≡ print f → verdict k bs ≡ Ok tt
   pub one-formula : (f g : Formula) → Fits k f → Fits k g → strip bs ≡ print f → strip bs ≡ print g → f ≡ g
+  -- blanks and line ends change nothing but places
+  pub blanks : (cs : List ℕ) → strip cs ≡ strip bs → causeOf (verdict k cs) ≡ causeOf (verdict k bs)

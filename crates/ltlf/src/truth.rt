@@ -7,7 +7,7 @@ ghost use lib.ListN.{length};
 ghost use Rattle.std.specs.Orderings.{Decides};
 ghost use Rattle.ltlf.specs.Meaning.{Satisfies};
 ghost use Rattle.ltlf.specs.Rows.{operandBit, truthAtEnd, pendingOn, truthBefore, rowBy, endRule, pendingRule, beforeRule, truths, keeps};
-ghost use Rattle.ltlf.specs.Suffix.{empty};
+ghost use Rattle.ltlf.specs.Suffix.{empty, By-suffix};
 ghost use Rattle.ltlf.specs.Tasks.{taskFormula};
 ghost use Rattle.ltlf.specs.Truth.{satisfied};
 use crate::node::Node;
@@ -130,6 +130,7 @@ pub fn row_before(nodes: &[Node], action: u8, pending: &Row) -> Row
 pub fn satisfies(task: &Task, trace: &[u8]) -> bool
     ensures value { λ r. ⌜ r ≡ satisfied (taskFormula (now (task .entry))) (now (trace .entry)) ⌝ }
     ensures means { λ r. ⌜ Decides r (Satisfies (taskFormula (now (task .entry))) (now (trace .entry))) ⌝ }
+    ensures edges { λ _. ⌜ By-suffix ⌝ }
 {
     let nodes = task.nodes();
     let mut row = end_row(nodes);

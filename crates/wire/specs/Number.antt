@@ -4,7 +4,7 @@ use mathlib.Core.Bool.{Bool, cond, _||_}
 use mathlib.Core.List.{List, [], _∷_, _++_}
 use mathlib.Core.Logic.{_⊎_}
 use Prim.Native.Nat.{ℕ, _+_, _-_, _*_, _/_, _%_, _<_, _≤_}
-use lib.ListN.{set, length, getD, drop}
+use lib.ListN.{set, length, getD, take, drop}
 use lib.Dec.{ltb, eqb}
 use Rattle.std.specs.declared.result.Result.{Result}
 use Rattle.std.specs.declared.result.Result.the-variants.{Ok, Err}
@@ -21,6 +21,21 @@ largest = 65535
 abbrev pub groups : ℕ → List ℕ
 groups n =
     cond (ltb n 128) (n ∷ []) (cond (ltb n 16384) ((n % 128 + 128) ∷ (n / 128) ∷ []) ((n % 128 + 128) ∷ (n / 128 % 128 + 128) ∷ (n / 16384) ∷ []))
+
+-- what a form is worth: seven bits a byte, lowest first
+abbrev pub worth : List ℕ → ℕ
+worth [] = 0
+worth (b ∷ bs) = b % 128 + 128 * worth bs
+
+-- a form: bytes of which every one but the last has the top bit
+abbrev pub Form : List ℕ → Type 0
+Form [] = ⊥
+Form (b ∷ []) = b < 128
+Form (b ∷ (c ∷ bs)) = (128 ≤ b) × (b < 256) × Form (c ∷ bs)
+
+-- the bytes of n are a form of it, and no form of it is shorter
+abbrev pub Shortest : Type 0
+Shortest = (n : ℕ) → n ≤ largest → Form (groups n) × (worth (groups n) ≡ n) × ((cs : List ℕ) → Form cs → worth cs ≡ n → length (groups n) ≤ length cs)
 
 -- the bytes begin with the number n, and the rest follows it
 abbrev pub Begins : List ℕ → ℕ → List ℕ → Type 0
@@ -70,6 +85,12 @@ putAt xs i (b ∷ bs) = putAt (set xs i b) (i + 1) bs
 -- what is written is read back, whatever follows it
 abbrev pub Round-trip : Type 0
 Round-trip = (n : ℕ) (rest : List ℕ) → n ≤ largest → readNumber (groups n ++ rest) ≡ value n rest
+
+-- what the output holds once n stands in it from place at to place e: it is read back, and all else is as it was
+pub record Written (before after : List ℕ) (at n e : ℕ) : Type 0 where
+  pub read-back : numberAt after at ≡ Ok (n, e)
+  pub front : take at after ≡ take at before
+  pub rest : drop e after ≡ drop e before
 
 -- worked examples: FF FF 03 is 65,535; 80 80 04 and 80 00 are no numbers
 pub record Number-examples : Type 0 where

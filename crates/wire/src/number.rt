@@ -3,7 +3,8 @@ ghost use mathlib.Core.Path.{_≡_};
 ghost use Prim.Native.Nat.{_+_, _≤_, _<_};
 ghost use lib.ListN.{length};
 ghost use Rattle.std.specs.Results.{Cases};
-ghost use Rattle.wire.specs.Number.{Begins, Refused-number, Round-trip, Number-examples, groups, readNumber, value, refusal, numberAt, putAt};
+ghost use Rattle.std.specs.Vec.{made};
+ghost use Rattle.wire.specs.Number.{Begins, Refused-number, Shortest, Written, groups, readNumber, value, refusal, numberAt, putAt};
 ghost use Rattle.wire.specs.Refusals.{refused};
 use crate::refusal::Cause;
 use crate::refusal::Refusal;
@@ -11,8 +12,8 @@ use crate::refusal::Refusal;
 // The largest third group: 65,535 has 3 there.
 const LAST_GROUP: u8 = 3;
 
-// The number at the front of `bytes`, and what follows it.
-pub fn read_number(bytes: &[u8]) -> Result<(u16, &[u8]), Cause>
+// Takes the one to three groups of a number off the front of `bytes`.
+fn split_groups(bytes: &[u8]) -> Result<(u16, &[u8]), Cause>
     ensures reads { λ r. ⌜ Cases r (λ p. readNumber (now (bytes .entry)) ≡ value (p .0) (now (p .1))) (λ e. readNumber (now (bytes .entry)) ≡ refusal e) ⌝ }
     ensures means { λ r. ⌜ Cases r (λ p. Begins (now (bytes .entry)) (p .0) (now (p .1))) (λ e. Refused-number (now (bytes .entry)) e) ⌝ }
 {
@@ -36,6 +37,15 @@ pub fn read_number(bytes: &[u8]) -> Result<(u16, &[u8]), Cause>
     }
 }
 
+// The number at the front of `bytes`, and what follows it.
+pub fn read_number(bytes: &[u8]) -> Result<(u16, &[u8]), Cause>
+    ensures reads { λ r. ⌜ Cases r (λ p. readNumber (now (bytes .entry)) ≡ value (p .0) (now (p .1))) (λ e. readNumber (now (bytes .entry)) ≡ refusal e) ⌝ }
+    ensures means { λ r. ⌜ Cases r (λ p. Begins (now (bytes .entry)) (p .0) (now (p .1))) (λ e. Refused-number (now (bytes .entry)) e) ⌝ }
+    ensures shortest { λ _. ⌜ Shortest ⌝ }
+{
+    split_groups(bytes)
+}
+
 // The number that begins at `at`, and where it ends.
 pub fn number_at(bytes: &[u8], at: usize) -> Result<(u16, usize), Refusal>
     ensures { λ r. ⌜ r ≡ numberAt (now (bytes .entry)) at ⌝ }
@@ -49,10 +59,9 @@ pub fn number_at(bytes: &[u8], at: usize) -> Result<(u16, usize), Refusal>
     }
 }
 
-// Writes `n` from `at` on and says where it ends; where it does not fit, writes nothing.
-pub fn write_number(out: &mut [u8], at: usize, n: u16) -> Result<usize, Refusal>
-    ensures writes { λ r. ⌜ Cases r (λ e. (e ≡ at + length (groups n)) × (e ≤ length (now (out .entry))) × (now (out .exit) ≡ putAt (now (out .entry)) at (groups n))) (λ e. (e ≡ refused Cause.OutputTooShort 0) × (length (now (out .entry)) < at + length (groups n)) × (now (out .exit) ≡ now (out .entry))) ⌝ }
-    ensures reads_back { λ _. ⌜ Round-trip ⌝ }
+// Puts the groups of `n` from `at` on.
+fn put_groups(out: &mut [u8], at: usize, n: u16) -> Result<usize, Refusal>
+    ensures { λ r. ⌜ Cases r (λ e. (e ≡ at + length (groups n)) × (e ≤ length (now (out .entry))) × (now (out .exit) ≡ putAt (now (out .entry)) at (groups n))) (λ e. (e ≡ refused Cause.OutputTooShort 0) × (length (now (out .entry)) < at + length (groups n)) × (now (out .exit) ≡ now (out .entry))) ⌝ }
 {
     let room = out.len();
     if at > room {
@@ -81,4 +90,13 @@ pub fn write_number(out: &mut [u8], at: usize, n: u16) -> Result<usize, Refusal>
         out[at + 2] = (n / 16384) as u8;
         Ok(at + 3)
     }
+}
+
+// Writes `n` from `at` on and says where it ends; where it does not fit, writes nothing.
+pub fn write_number(out: &mut [u8], at: usize, n: u16) -> Result<usize, Refusal>
+    ensures writes { λ r. ⌜ Cases r (λ e. (e ≡ at + length (groups n)) × (e ≤ length (now (out .entry))) × (now (out .exit) ≡ putAt (now (out .entry)) at (groups n))) (λ e. (e ≡ refused Cause.OutputTooShort 0) × (length (now (out .entry)) < at + length (groups n)) × (now (out .exit) ≡ now (out .entry))) ⌝ }
+    ensures reads_back { λ r. ⌜ made r (λ e. Written (now (out .entry)) (now (out .exit)) at n e) ⌝ }
+    ensures shortest { λ _. ⌜ Shortest ⌝ }
+{
+    put_groups(out, at, n)
 }

@@ -1,5 +1,6 @@
 // Why a call said no, and where.
 ghost use mathlib.Core.Path.{_≡_};
+ghost use Rattle.std.specs.Orderings.{Decides};
 ghost use Rattle.std.specs.declared.option.Option.the-variants.{Some};
 ghost use Rattle.wire.specs.Refusals.{numberOf, shownText, Numbers-differ, noMemory, refused};
 use std::alloc::AllocError;
@@ -7,7 +8,7 @@ use std::alloc::Refused;
 use std::fmt;
 
 // The causes of refusals; the discriminant is the refusal number.
-#[derive(Clone, Copy, PartialEq, Eq, Debug)]
+#[derive(Clone, Copy, Eq, Debug)]
 pub enum Cause {
     UnknownByte = 1,
     FormulaComplete = 2,
@@ -74,6 +75,15 @@ impl Cause {
         ensures { λ r. ⌜ r ≡ refused self place ⌝ }
     {
         Refusal { cause: self, place }
+    }
+}
+
+// Two causes are the same exactly where their numbers are.
+pub impl PartialEq<Cause> for Cause as CauseSame {
+    ghost equals = { λ a b r. Decides r (a ≡ b) };
+
+    fn eq(&self, other: &Cause) -> bool {
+        self.number() == other.number()
     }
 }
 

@@ -14,6 +14,7 @@ use Rattle.ltlf.specs.Rows.{truths}
 use Rattle.ltlf.specs.Suffix.{empty}
 use Rattle.ltlf.specs.Tasks.{taskFormula}
 use Rattle.ltlf.specs.Truth.{satisfied}
+use Rattle.ltlf.proofs.Step.{by-suffix}
 use Rattle.ltlf.proofs.Means.{decided}
 use Rattle.ltlf.proofs.Suffixes.{empty-drop, drop-before, row-first, length-truths}
 use Rattle.ltlf.proofs.truth.satisfies.Needs as need
@@ -48,4 +49,4 @@ returns c =
     c .loop-i .inv .1 ∙ ap₂ (λ xs k. truths xs (drop k trace)) (c .nodes-nodes .ensures) none in
     let value : getD (c .loop-i .row) 0 false ≡ satisfied (taskFormula (c .args .task .now)) trace =
     ap (λ row. getD row 0 false) whole ∙ row-first items trace ∙ ap (λ xs. satisfied (formulaOf xs) trace) (take-all 64 items few) in
-    record { value = value; means = decides-at _ _ value (decided (taskFormula (c .args .task .now)) trace 0) }
+    record { value = value; means = decides-at _ _ value (decided (taskFormula (c .args .task .now)) trace 0); edges = by-suffix }
