@@ -1,3 +1,4 @@
 pub mod Refusals
 pub mod Number
 pub mod Reading
+pub mod Members
