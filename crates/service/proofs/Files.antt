@@ -21,6 +21,7 @@ use Rattle.wire.specs.Number.{numberAt, groups}
 use Rattle.wire.proofs.Numbers.{Bytes, number-form, number-read}
 use Rattle.service.specs.declared.service.Service.{Service}
 use Rattle.wire.specs.Fields.{field, ranged}
+use Rattle.service.specs.FileTables.{fileLawful, Services-lawful}
 use Rattle.service.specs.File.{Contents, entryOf, rowOf, tableOf, serviceOf, servicesOf, fileOf, noService, zeroRow, zeroService, pieces, rowBytes, serviceBytes, bytesOf, Filled, Row-within, Service-within, Within, Services-law}
 use Rattle.service.proofs.Slots.{passed, Reads-slot, filled-read, Takes-slot, filled-taken}
 
@@ -170,3 +171,6 @@ module _ (bs : List ℕ) where
 -- of bytes, both ways
 pub services-law : (bs : List ℕ) → Bytes bs → Services-law bs
 services-law bs bytes = record { accepted = file-read bs bytes; accepts = file-taken bs }
+
+pub services-lawful : (bs : List ℕ) → Bytes bs → Services-lawful bs
+services-lawful bs bytes c e = fileLawful c (file-read bs bytes c e .0)

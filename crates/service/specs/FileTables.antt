@@ -1,7 +1,7 @@
 -- The tables of a services file.
 use mathlib.Core.Path.{_≡_, sym, ap, subst}
 use mathlib.Core.Bool.{Bool, cond, _&&_}
-use mathlib.Core.List.{[]}
+use mathlib.Core.List.{List, []}
 use mathlib.Core.Logic.{⊎-elim}
 use Prim.Native.Nat.{ℕ, _^_, _<_, _≤_}
 use native.Mathlib.Omega.{arith}
@@ -9,8 +9,9 @@ use lib.ListN.{getD}
 use lib.Dec.{ltb}
 use lib.Pow.{pow-pos}
 use Rattle.std.proofs.shelf.Tests.{cases-lt, lt-ltb, le-ltb, ltb-true, and-parts, and-left, and-right, cond-true, cond-false, cond-both}
+use Rattle.std.specs.declared.result.Result.the-variants.{Ok}
 use Rattle.service.specs.declared.service.Service.{Service}
-use Rattle.service.specs.File.{Contents, noService, Within, Service-within}
+use Rattle.service.specs.File.{Contents, noService, Within, Service-within, fileOf}
 use Rattle.service.specs.Tables.{Tables, Lawful}
 
 -- service s of the file, with no states past the last one
@@ -88,3 +89,7 @@ module _ (c : Contents) (w : Within c) where
     present-inside = λ s h. within s h .initial;
     present-past = λ s h. ap (λ (x : Service). x .initial) (past s h);
   }
+
+-- every file that is accepted gives such tables
+abbrev pub Services-lawful : List ℕ → Type 0
+Services-lawful bs = (c : Contents) → fileOf bs ≡ Ok c → Lawful (tablesOf c) (initialOf c)

@@ -2,6 +2,7 @@
 ghost use mathlib.Core.Path.{_≡_};
 ghost use Prim.Native.Nat.{_≤_};
 ghost use Rattle.wire.specs.Reading.{filling, answer, left};
+ghost use Rattle.service.specs.FileTables.{Services-lawful};
 ghost use Rattle.service.specs.File.{contents, servicesOf, fileOf, zeroFile, Whole, Services-law};
 use super::CommunityFile;
 use crate::limits::MAX_ACTIONS;
@@ -46,6 +47,7 @@ pub fn read_services(bytes: &[u8], out: &mut CommunityFile) -> Result<(), Refusa
     ensures says { λ r. ⌜ r ≡ answer (fileOf (now (bytes .entry))) ⌝ }
     ensures leaves { λ _. ⌜ contents (now (out .exit)) ≡ left zeroFile (fileOf (now (bytes .entry))) ⌝ }
     ensures law { λ _. ⌜ Services-law (now (bytes .entry)) ⌝ }
+    ensures lawful { λ _. ⌜ Services-lawful (now (bytes .entry)) ⌝ }
 {
     *out = CommunityFile::zero();
     let r = out.fill_whole(bytes);

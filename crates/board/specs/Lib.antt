@@ -1,0 +1,14 @@
+pub mod Lists
+pub mod Arena
+pub mod Game
+pub mod Ranks
+pub mod Law
+pub mod Table
+pub mod TableLaw
+pub mod Rounds
+pub mod Solving
+pub mod Place
+pub mod Layout
+pub mod Charts
+pub mod Reading
+pub mod ChartFile
