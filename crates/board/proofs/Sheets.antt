@@ -21,7 +21,8 @@ use Rattle.board.specs.declared.place.Entry.{Entry}
 use Rattle.board.specs.declared.place.Place.{Place}
 use Rattle.board.specs.Place.{noEntry}
 use Rattle.board.specs.Layout.{Sized, Sound}
-use Rattle.board.specs.Reading.{ranged, field, outcomeOf, outcomesOf, outcomesAt, entryOf, choiceOf, choicesOf, entriesAt, placeOf, positionOf, positionsOf, Sheet, sheetOf, zeroSheet, Reads-sheet}
+use Rattle.wire.specs.Fields.{ranged, field}
+use Rattle.board.specs.Reading.{outcomeOf, outcomesOf, outcomesAt, entryOf, choiceOf, choicesOf, entriesAt, placeOf, positionOf, positionsOf, Sheet, sheetOf, zeroSheet, Reads-sheet}
 use Rattle.board.specs.Arena.{Arena}
 use Rattle.board.specs.Charts.{arenaOf}
 use Rattle.board.specs.ChartFile.{numbers, choiceBytes, fileBytes, Rising, Charted, Same, Chart-law}

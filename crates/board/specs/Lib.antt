@@ -12,3 +12,4 @@ pub mod Layout
 pub mod Charts
 pub mod Reading
 pub mod ChartFile
+pub mod Example

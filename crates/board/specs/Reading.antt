@@ -11,19 +11,11 @@ use Rattle.std.specs.declared.result.Result.the-variants.{Ok, Err}
 use Rattle.wire.specs.declared.refusal.Cause.the-variants as cause
 use Rattle.wire.specs.declared.refusal.Refusal.{Refusal}
 use Rattle.wire.specs.Refusals.{refused, noMemory}
-use Rattle.wire.specs.Number.{numberAt}
+use Rattle.wire.specs.Fields.{field}
 use Rattle.wire.specs.Reading.{andThen, steps, answer, left}
 use Rattle.board.specs.declared.place.Entry.{Entry}
 use Rattle.board.specs.declared.place.Place.{Place}
 use Rattle.board.specs.Place.{noEntry}
-
-abbrev pub ranged : ℕ → ℕ → ℕ → Result (ℕ × ℕ) Refusal → Result (ℕ × ℕ) Refusal
-ranged at low high (Ok p) = cond (ltb (p .0) low || ltb high (p .0)) (Err (refused cause.OutsideField at)) (Ok p)
-ranged at low high (Err e) = Err e
-
--- a number from low to high at a place, and where it ends
-abbrev pub field : List ℕ → ℕ → ℕ → ℕ → Result (ℕ × ℕ) Refusal
-field bs at low high = ranged at low high (numberAt bs at)
 
 -- outcome i, of n positions: from where on, the least that it may be, and the outcomes so far
 abbrev pub outcomeOf : List ℕ → ℕ → ℕ → ℕ × ℕ × List ℕ → Result (ℕ × ℕ × List ℕ) Refusal

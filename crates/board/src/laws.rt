@@ -1,4 +1,5 @@
 // The laws of ranks and tables, for every board.
+ghost use Rattle.board.specs.Example.{Roll-is-solved};
 ghost use Rattle.board.specs.Law.{Won-is-forced, Rounds-end, Ranked-is-forced, Rank-is-least, Hopeless, Every-play-succeeds, Forces-is-within, Law-of-rounds};
 ghost use Rattle.board.specs.TableLaw.{Solution-is-ranked, Solution-is-accepted, Accepted-forces, Accepted-is-above};
 
@@ -34,6 +35,13 @@ pub fn tabling() -> u8
     ensures accepted { λ _. ⌜ Solution-is-accepted ⌝ }
     ensures forces { λ _. ⌜ Accepted-forces ⌝ }
     ensures above { λ _. ⌜ Accepted-is-above ⌝ }
+{
+    0
+}
+
+// The paper roll, read from its chart file and solved.
+pub fn example() -> u8
+    ensures { λ _. ⌜ Roll-is-solved ⌝ }
 {
     0
 }

@@ -5,3 +5,5 @@ pub mod laws;
 mod place;
 pub mod solve;
 pub mod table;
+#[cfg(test)]
+mod tests;

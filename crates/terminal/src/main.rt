@@ -1,4 +1,6 @@
-// Runs one task to its end against a paper roll, and prints what was done.
+// Runs one task to its end against a paper roll, and prints what was done; then solves a repair chart.
+mod solving;
+
 use ltlf::reader::read_task;
 use ltlf::task::Task;
 use ltlf::truth::satisfies;
@@ -91,12 +93,10 @@ fn run(rt: &LibcRuntime) -> Result<(), AnyError> {
         return Ok(());
     }
     match PaperRoll::new(ROLL_LENGTH) {
-        Ok(mut roll) => sell(rt, &task, &file, &mut roll),
-        Err(refusal) => {
-            println!(rt, "roll {refusal}")?;
-            Ok(())
-        }
+        Ok(mut roll) => sell(rt, &task, &file, &mut roll)?,
+        Err(refusal) => println!(rt, "roll {refusal}")?,
     }
+    solving::solve_chart(rt)
 }
 
 fn main(rt: LibcRuntime) -> Result<(), AnyError> {

@@ -1,8 +1,7 @@
 // A chart as a board.
 ghost use mathlib.Core.Path.{_≡_};
-ghost use mathlib.Core.List.{[]};
-ghost use Rattle.std.specs.Of.Vec.{vec-items};
-ghost use Rattle.board.specs.Charts.{chartArena, chartLawful};
+ghost use Rattle.board.specs.Charts.{sheet, chartArena, chartLawful};
+ghost use Rattle.board.specs.Reading.{zeroSheet};
 use crate::board::Board;
 use crate::chart::Chart;
 use std::alloc::Global;
@@ -10,7 +9,7 @@ use std::alloc::Global;
 impl Chart {
     // One position that is not done, and one choice that cannot be played.
     pub fn zero(heap: Global) -> Chart
-        ensures { λ r. ⌜ (r .positions ≡ 1) × (r .choices ≡ 1) × (vec-items (r .places) ≡ []) ⌝ }
+        ensures { λ r. ⌜ sheet r ≡ zeroSheet ⌝ }
     {
         Chart {
             positions: 1,

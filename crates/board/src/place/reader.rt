@@ -1,38 +1,14 @@
 // Reading one position of a chart file.
 ghost use mathlib.Core.Path.{_≡_};
 ghost use Prim.Native.Nat.{_≤_};
-ghost use Rattle.std.specs.Vec.{made};
 ghost use mathlib.Core.Bool.{cond};
-ghost use Rattle.board.specs.Reading.{field, outcomesAt, entryOf, entriesAt, placeOf};
+ghost use Rattle.board.specs.Reading.{outcomesAt, entryOf, entriesAt, placeOf};
 use crate::place::Entry;
 use crate::place::MOST_CHOICES;
 use crate::place::MOST_OUTCOMES;
 use crate::place::Place;
-use wire::number::number_at;
-use wire::refusal::Cause;
+use wire::field::read_field;
 use wire::refusal::Refusal;
-
-// The number at `at`, which lies from `low` to `high`, and where it ends.
-pub(crate) fn read_field(
-    bytes: &[u8],
-    at: usize,
-    low: u16,
-    high: u16,
-) -> Result<(u16, usize), Refusal>
-    ensures value { λ r. ⌜ r ≡ field (now (bytes .entry)) at low high ⌝ }
-    ensures within { λ r. ⌜ made r (λ p. (low ≤ p .0) × (p .0 ≤ high)) ⌝ }
-{
-    match number_at(bytes, at) {
-        Ok((v, next)) => {
-            if v < low || v > high {
-                Err(Cause::OutsideField.at(at))
-            } else {
-                Ok((v, next))
-            }
-        }
-        Err(e) => Err(e),
-    }
-}
 
 // So many outcomes, ascending and among the positions; the others are 0.
 fn read_outcomes(
