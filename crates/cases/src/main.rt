@@ -1,4 +1,6 @@
 // Answers test vectors: one call to a line on standard input, one answer to a line on standard output.
+mod boards;
+mod lives;
 mod roll;
 mod text;
 mod words;
@@ -19,6 +21,13 @@ fn answer(rt: &LibcRuntime, line: &str) -> Result<(), AnyError> {
         "satisfies" => text::satisfaction(rt, first, second, words.next().unwrap_or("")),
         "services" => text::services(rt, first),
         "roll" => roll::performances(rt, first, second),
+        "chart" => boards::chart(rt, first),
+        "solve" => boards::solution(rt, first),
+        "audit" => boards::verdict(rt, first, second),
+        "run" => {
+            let number = words.next().unwrap_or("");
+            lives::life(rt, first, second, number, words.next().unwrap_or(""))
+        }
         _ => {
             println!(rt, "{line}")?;
             Ok(())

@@ -1,4 +1,5 @@
-// Runs one task to its end against a paper roll, and prints what was done; then solves a repair chart.
+// Runs one task to its end against a paper roll, and prints what was done; then solves a repair chart and runs its table.
+mod running;
 mod solving;
 
 use ltlf::reader::read_task;

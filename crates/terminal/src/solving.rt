@@ -1,4 +1,5 @@
-// Solves the repair chart of the demonstration, and prints the table.
+// Solves the repair chart of the demonstration, prints the table and runs it.
+use crate::running::run_table;
 use board::board::Board;
 use board::chart::Chart;
 use board::chart::reader::read_chart;
@@ -25,7 +26,7 @@ fn print_row(rt: &LibcRuntime, row: Row) -> Result<(), AnyError> {
     Ok(())
 }
 
-// Reads the chart, solves it and prints each row of its table.
+// Reads the chart, solves it, prints each row of its table and runs the table.
 pub(crate) fn solve_chart(rt: &LibcRuntime) -> Result<(), AnyError> {
     let bytes = fs::read(rt, "chart.bin")?;
     let mut chart = Chart::zero(rt.alloc());
@@ -44,5 +45,5 @@ pub(crate) fn solve_chart(rt: &LibcRuntime) -> Result<(), AnyError> {
     for row in table.rows() {
         print_row(rt, *row)?;
     }
-    Ok(())
+    run_table(rt, &chart, &table)
 }

@@ -1,0 +1,5 @@
+pub mod Finding
+pub mod Putting
+pub mod Turns
+pub mod Forms
+pub mod Laws

@@ -1,0 +1,5 @@
+pub mod Bytes
+pub mod Writing
+pub mod Audit
+pub mod Law
+pub mod Examples
