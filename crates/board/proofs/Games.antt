@@ -17,6 +17,7 @@ use Rattle.board.proofs.Basics.{all-from, all-at, some-has, any-at, any-has, l
 pub record Leads {X : Type 0} (g : Game X) (n : ℕ) (x : X) : Type 0 where
   pub in-range : choice-to g n x < g .choices
   pub playable : some (g .outcomes x (choice-to g n x)) ≡ true
+  pub wins : forced g (won g (rank-to g n x - 1)) x (choice-to g n x) ≡ true
   pub lower : (y : X) → Member y (g .outcomes x (choice-to g n x)) → (won g n y ≡ true) × (rank-to g n y < rank-to g n x)
 
 module _ {X : Type 0} (g : Game X) where
@@ -60,6 +61,7 @@ module _ {X : Type 0} (g : Game X) where
       record {
         in-range = omega (arith, one .1, least-le (g .choices) W (one .0) (one .1) found);
         playable = good .0;
+        wins = least-at (g .choices) W (one .0) (one .1) found;
         lower = λ y i.
             let w : won g r y ≡ true = subst (λ k. won g k y ≡ true) down (all-at (won g (rank-to g n x - 1)) i (good .1)) in
             (won-later r n y (omega arith) w, omega (arith, s, rank-le n y r (omega arith) w));

@@ -16,16 +16,17 @@ use Rattle.std.specs.Results.{Cases, ErrBy}
 use Rattle.std.specs.Options.{isSome}
 use Rattle.std.proofs.shelf.Tests.{both-ways, false≢true, cases-bool, cases-lt, cond-true, cond-false, lt-ltb, le-ltb}
 use Rattle.board.specs.declared.table.Row.{Row}
-use Rattle.board.specs.Lists.{least}
+use Rattle.board.specs.Lists.{Member, least}
 use Rattle.board.specs.Arena.{Arena, Lawful}
 use Rattle.board.specs.Game.{forced, rank-if}
 use Rattle.board.specs.Ranks.{moves, won, ranked, rank, choice}
 use Rattle.board.specs.Rounds.{under, held, wins-by, Settled}
 use Rattle.board.specs.Table.{Accepted, rank-in, row, keep, rows-from, solution}
-use Rattle.board.specs.Solving.{Solve-law}
-use Rattle.board.proofs.Games.{rank-le, rank-won, won-later}
-use Rattle.board.proofs.Ranks.{rank-is-least}
-use Rattle.board.proofs.Tables.{zero-done, solution-rank, solution-is-accepted, accepted-forces}
+use Rattle.board.specs.Solving.{Rows-law, Solve-law}
+use Rattle.board.proofs.Basics.{least-before}
+use Rattle.board.proofs.Games.{leads, rank-le, rank-won, won-later}
+use Rattle.board.proofs.Ranks.{won-beyond, rounds-end, rank-is-least}
+use Rattle.board.proofs.Tables.{zero-done, solution-is-ranked, solution-rank, solution-is-accepted, accepted-forces}
 
 pub least-most : (n : ℕ) (f : ℕ → Bool) → least n f ≤ n
 least-most zero f = omega arith
@@ -136,9 +137,42 @@ pub refused-cases : {T E : Type 0} (r : Result T E) (P : T → Type 0) (Q : E �
 refused-cases (Ok x) P Q h = absurd h
 refused-cases (Err e) P Q h = h
 
+-- which rows solve answers
+module _ (b : Arena) (ok : Lawful b) where
+  -- a row of the solution, by its position
+  same-rank : (r : Row) → Member r (solution b) → r .rank ≡ rank b (r .position)
+  same-rank r i = ap (λ (x : Row). x .rank) (solution-is-ranked b r .0 i .0)
+
+  going : (r : Row) → Member r (solution b) → 0 < r .rank → b .done (r .position) ≡ false
+  going r i h =
+      ⊎-elim (λ d. absurd (omega (arith, same-rank r i, zero-done b (r .position) (solution-is-ranked b r .0 i .2) .0 d))) (λ d. d) (cases-bool (b .done (r .position)))
+
+  same-choice : (r : Row) → Member r (solution b) → 0 < r .rank → r .choice ≡ choice b (r .position)
+  same-choice r i h = ap (λ (x : Row). x .choice) (solution-is-ranked b r .0 i .0) ∙ cond-false (b .done (r .position)) 0 (choice b (r .position)) (going r i h)
+
+  rows-law : Rows-law b (solution b)
+  rows-law = record {
+    every = λ p m e.
+        let l : p < b .positions = ⊎-elim (λ l. l) (λ g. absurd (both-ways (won b m p) (won-beyond b ok m p g) e)) (cases-lt p (b .positions)) in
+        (row b p, solution-is-ranked b (row b p) .1 p l (rounds-end b ok m p e), refl);
+    reached = λ r i. subst (λ n. won b n (r .position) ≡ true) (sym (same-rank r i)) (rank-won (moves b) (b .positions) (r .position) (solution-is-ranked b r .0 i .2));
+    least = λ r m i e.
+        ⊎-elim
+        (λ l. omega (arith, same-rank r i, rank-le (moves b) (b .positions) (r .position) m (omega arith) e))
+        (λ l. omega (arith, same-rank r i, rank-le (moves b) (b .positions) (r .position) (b .positions) (omega arith) (solution-is-ranked b r .0 i .2)))
+        (cases-lt m (b .positions));
+    lowest = λ r i h.
+        let p = r .position in
+        let t = same-rank r i in
+        let c = same-choice r i h in
+        let l = leads (moves b) (b .positions) p (solution-is-ranked b r .0 i .2) (going r i h) in
+        ((λ j. forced (moves b) (won b (t j - 1)) p (c j)) ∙ l .wins,
+          λ d less. (λ j. forced (moves b) (won b (t j - 1)) p d) ∙ least-before (b .choices) (forced (moves b) (won b (rank b p - 1)) p) d (omega (arith, l .in-range, c)) (omega (arith, c)));
+  }
+
 -- the law of what was answered
 pub solved-law : (b : Arena) → Lawful b → (rows : List Row) → ranked b 0 ≡ true → rows ≡ solution b → Solve-law b (Ok tt) rows
 solved-law b ok rows e s =
     let good = subst (Accepted b) (sym s) (solution-is-accepted b ok e) in
     let first : rank-in rows 0 ≡ rank b 0 = ap (λ rs. rank-in rs 0) s ∙ solution-rank b ok e in
-    (accepted-forces b ok rows good, (λ o m f. omega (arith, first, rank-is-least b ok e .1 o m f)), good)
+    (accepted-forces b ok rows good, (λ o m f. omega (arith, first, rank-is-least b ok e .1 o m f)), good, subst (Rows-law b) (sym s) (rows-law b ok))

@@ -64,13 +64,13 @@ fn read_position<B: Board>(
 fn read_rank<B: Board>(
     board: &B,
     bytes: &[u8],
-    position: u16,
+    position: usize,
     at: usize,
 ) -> Result<(u16, usize), Refusal>
     ensures { λ r. ⌜ r ≡ rankAt (arena (now (board .entry))) (now (bytes .entry)) position at ⌝ }
 {
     let (rank, next) = number_at(bytes, at)?;
-    if board.is_done(position as usize) {
+    if board.is_done(position) {
         if rank != 0 {
             return Err(Cause::RankAgainstDone.at(at));
         }
@@ -84,15 +84,13 @@ fn read_rank<B: Board>(
 fn read_choice<B: Board>(
     board: &B,
     bytes: &[u8],
-    position: u16,
+    position: usize,
     at: usize,
 ) -> Result<(u8, usize), Refusal>
     ensures { λ r. ⌜ r ≡ choiceAt (arena (now (board .entry))) (now (bytes .entry)) position at ⌝ }
 {
     let (choice, next) = number_at(bytes, at)?;
-    if board
-        .outcomes(position as usize, choice as usize)
-        .is_empty() {
+    if board.outcomes(position, choice as usize).is_empty() {
         return Err(Cause::ChoiceUnplayable.at(at));
     }
     Ok((choice as u8, next))
@@ -108,7 +106,7 @@ fn read_row<B: Board>(
     ensures { λ r. ⌜ r ≡ rowAt (arena (now (board .entry))) (now (bytes .entry)) floor at ⌝ }
 {
     let (position, second) = read_position(board, bytes, floor, at)?;
-    let (rank, third) = read_rank(board, bytes, position, second)?;
+    let (rank, third) = read_rank(board, bytes, position as usize, second)?;
     if rank == 0 {
         let row = Row {
             position,
@@ -117,7 +115,7 @@ fn read_row<B: Board>(
         };
         return Ok((row, third));
     }
-    let (choice, end) = read_choice(board, bytes, position, third)?;
+    let (choice, end) = read_choice(board, bytes, position as usize, third)?;
     let row = Row {
         position,
         rank,

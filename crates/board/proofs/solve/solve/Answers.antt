@@ -5,7 +5,7 @@ use mathlib.Core.Path.{_≡_}
 use Prim.Native.Nat.{_≤_}
 use Rattle.std.specs.Of.Vec.{vec-items}
 use Rattle.board.specs.Ranks.{ranked}
-use Rattle.board.proofs.Ranks.{hopeless}
+use Rattle.board.proofs.Ranks.{hopeless, ranked-is-forced}
 use Rattle.board.proofs.Rows.{is-lost, is-there, solved-law}
 use Rattle.board.proofs.solve.solve.Needs as need
 
@@ -16,13 +16,16 @@ pub returns-then-is-none : need.returns-then-is-none
 returns-then-is-none g c =
     let b = c .args .board .now in
     let e : ranked (g .B·Board .arena b) 0 ≡ false = is-lost (g .B·Board .arena b) (c .settle .last .ranks) (c .settle .ensures) 0 (c .if-is-none .ensures tt) in
-    record { solves = (c .clear .ensures .items, inl (e, c .at .ensures)); law = inr (hopeless (g .B·Board .arena b) (g .B·Board .lawful b) .0 e) }
+    record { solves = (c .clear .ensures .items, inl (e, c .at .ensures)); law = inl (c .at .ensures, hopeless (g .B·Board .arena b) (g .B·Board .lawful b) .0 e) }
 
 pub fill-requires : need.fill-requires
 fill-requires g c κs = record { room = omega (arith, c .settle .kept .ranks, g .B·Board .lawful (c .args .board .now) .few-positions); settled = c .settle .ensures; empty = c .clear .ensures .items }
 
 pub returns-in-Err : need.returns-in-Err
-returns-in-Err g c = record { solves = (c .clear-in-Err .ensures .items, inr (c .in-Err .ensures tt)); law = inl (c .in-Err .ensures tt) }
+returns-in-Err g c =
+    let b = c .args .board .now in
+    let e : ranked (g .B·Board .arena b) 0 ≡ true = is-there (g .B·Board .arena b) (c .settle .last .ranks) (c .settle .ensures) 0 (c .if-is-none .ensures tt) in
+    record { solves = (c .clear-in-Err .ensures .items, inr (e, c .in-Err .ensures tt)); law = inr (c .in-Err .ensures tt, ranked-is-forced (g .B·Board .arena b) (g .B·Board .lawful b) .0 e) }
 
 pub returns-in-Ok : need.returns-in-Ok
 returns-in-Ok g c =

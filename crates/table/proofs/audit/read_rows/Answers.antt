@@ -22,6 +22,11 @@ returns-in-Break-row g c =
     err-cases (c .from-residual .result) _ _ _ (c .from-residual .ensures .1)
     (inl (reading-stops (g .B·Board .arena (c .args .board .now)) (c .args .bytes .now) (c .args .count) (c .args .at) (c .loop-i .i) (c .loop-i .floor) (c .loop-i .at) (vec-items (c .loop-i .rows)) (c .loop-i .ranks) (c .loop-i .inv) (omega arith) _ (sym (c .in-Break-row .ensures tt))))
 
+pub index-ranks-row : need.index-ranks-row
+index-ranks-row g c =
+    let parts = row-parts (g .B·Board .arena (c .args .board .now)) (c .args .bytes .now) (c .loop-i .floor) (c .loop-i .at) (c .in-Continue-row .row, c .in-Continue-row .next) (sym (c .in-Continue-row .ensures tt)) in
+    omega (arith, parts .on, g .B·Board .lawful (c .args .board .now) .few-positions, c .loop-i .inv .long)
+
 pub loop-i-again : need.loop-i-again
 loop-i-again g c =
     let b = g .B·Board .arena (c .args .board .now) in
