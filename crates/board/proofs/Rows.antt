@@ -165,9 +165,10 @@ module _ (b : Arena) (ok : Lawful b) where
         let p = r .position in
         let t = same-rank r i in
         let c = same-choice r i h in
-        let l = leads (moves b) (b .positions) p (solution-is-ranked b r .0 i .2) (going r i h) in
-        ((λ j. forced (moves b) (won b (t j - 1)) p (c j)) ∙ l .wins,
-          λ d less. (λ j. forced (moves b) (won b (t j - 1)) p d) ∙ least-before (b .choices) (forced (moves b) (won b (rank b p - 1)) p) d (omega (arith, l .in-range, c)) (omega (arith, c)));
+        let l = leads (moves b) (b .positions) p (solution-is-ranked b r .0 i .2) (going r i h) in (
+          (λ j. forced (moves b) (won b (t j - 1)) p (c j)) ∙ l .wins,
+          λ d less. (λ j. forced (moves b) (won b (t j - 1)) p d) ∙ least-before (b .choices) (forced (moves b) (won b (rank b p - 1)) p) d (omega (arith, l .in-range, c)) (omega (arith, c)),
+        );
   }
 
 -- the law of what was answered

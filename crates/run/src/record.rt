@@ -178,10 +178,8 @@ impl Record {
         if self.is_waiting() {
             return Ok(());
         }
-        match self.delegate(table, board) {
-            Ok(_) => Ok(()),
-            Err(refusal) => Err(refusal),
-        }
+        self.delegate(table, board)?;
+        Ok(())
     }
 
     // Delegates unless waiting, then reports the position as if with the run's slip.
@@ -196,9 +194,7 @@ impl Record {
             (λ _. supposing (arena (now (board .entry))) (vec-items (now (table .entry) .rows)) (now (self .entry)) position ≡ Ok (now (self .exit)))
             (λ e. supposing (arena (now (board .entry))) (vec-items (now (table .entry) .rows)) (now (self .entry)) position ≡ Err e) ⌝ }
     {
-        if let Err(refusal) = self.ready(table, board) {
-            return Err(refusal);
-        }
+        self.ready(table, board)?;
         let number = self.number;
         self.report(board, number, position)
     }

@@ -16,19 +16,19 @@ use table::audited::AuditedTable;
 use wire::refusal::Refusal;
 use wire::refusal::RefusalFromRefused;
 
-fn accept(r: Result<(), Refusal>) -> Answer
-    ensures { λ x. ⌜ x ≡ told done-so r ⌝ }
+fn accept(reply: Result<(), Refusal>) -> Answer
+    ensures { λ x. ⌜ x ≡ told done-so reply ⌝ }
 {
-    match r {
+    match reply {
         Ok(()) => Answer::Accepted,
         Err(refusal) => Answer::Refused { refusal },
     }
 }
 
-fn give(number: u16, r: Result<u8, Refusal>) -> Answer
-    ensures { λ x. ⌜ x ≡ told (given-by number) r ⌝ }
+fn give(number: u16, reply: Result<u8, Refusal>) -> Answer
+    ensures { λ x. ⌜ x ≡ told (given-by number) reply ⌝ }
 {
-    match r {
+    match reply {
         Ok(choice) => Answer::Given {
             choice,
             slip: number,
@@ -37,10 +37,10 @@ fn give(number: u16, r: Result<u8, Refusal>) -> Answer
     }
 }
 
-fn suppose(r: Result<(Look, usize), (Refusal, usize)>) -> Answer
-    ensures { λ x. ⌜ x ≡ rehearsed r ⌝ }
+fn suppose(reply: Result<(Look, usize), (Refusal, usize)>) -> Answer
+    ensures { λ x. ⌜ x ≡ rehearsed reply ⌝ }
 {
-    match r {
+    match reply {
         Ok((look, accepted)) => Answer::Rehearsed { look, accepted },
         Err((refusal, accepted)) => Answer::Stopped { refusal, accepted },
     }

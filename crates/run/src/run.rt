@@ -53,10 +53,8 @@ impl Run {
         ensures { λ r. ⌜ (handed r, now (self .exit) .rec) ≡ step (arena (now (board .entry))) (vec-items (now (table .entry) .rows)) (now (self .entry) .rec) Event.Delegate ⌝ }
     {
         let number = self.rec.number;
-        match self.rec.delegate(table, board) {
-            Ok(choice) => Ok((choice, Slip::of(number))),
-            Err(refusal) => Err(refusal),
-        }
+        let choice = self.rec.delegate(table, board)?;
+        Ok((choice, Slip::of(number)))
     }
 
     // The position that the delegated choice led to.
@@ -129,7 +127,7 @@ impl Run {
     }
 }
 
-// Delegates and reports the position. Where the report is refused, the slip is waived, so that the run is abandoned.
+// A whole turn: delegates, and reports the position. Where the report is refused, the slip is waived, so that none is let go.
 fn turn<B: Board>(
     run: &mut Run,
     table: &AuditedTable,

@@ -1,6 +1,6 @@
 -- What a row or a number that was read tells, and what it takes to read one.
-use Prim.Native.Nat.{ℕ, zero, suc, _+_, _-_, _<_, _≤_}
-use mathlib.Core.Bool.{Bool, true, false, cond, not, _&&_, _||_}
+use Prim.Native.Nat.{ℕ, _+_, _-_, _<_, _≤_}
+use mathlib.Core.Bool.{Bool, true, false}
 use mathlib.Core.List.{List, [], _∷_, _++_}
 use mathlib.Core.Path.{_≡_, refl, sym, ap, subst, _∙_}
 use mathlib.Core.Logic.{_⊎_, inl, inr, ⊎-elim}
@@ -9,7 +9,7 @@ use lib.Dec.{eqb, ltb, leb}
 use lib.ListN.{length, drop}
 use Rattle.std.specs.Orderings.{Decides}
 use Rattle.std.proofs.shelf.Lists.{append-assoc}
-use Rattle.std.proofs.shelf.Tests.{both-ways, true≢false, false≢true, cases-bool, cases-eq, cases-lt, eqb-true, eq-eqb, ne-eqb, ltb-true, lt-ltb, leb-true, le-leb, not-true, not-from-false, cond-true, cond-false}
+use Rattle.std.proofs.shelf.Tests.{both-ways, true≢false, false≢true, cases-bool, cases-eq, cases-lt, eq-eqb, ne-eqb, ltb-true, lt-ltb, leb-true, le-leb, not-true, not-from-false, cond-true, cond-false}
 use Rattle.std.proofs.shelf.Ways.{decides-eqb}
 use Rattle.std.specs.declared.result.Result.{Result}
 use Rattle.std.specs.declared.result.Result.the-variants.{Ok, Err}

@@ -1,7 +1,7 @@
 -- The law of audit: what it accepts is exactly the bytes of accepted rows.
 use Prim.Native.Nat.{ℕ, zero, suc, _+_, _-_, _<_, _≤_}
-use mathlib.Core.Bool.{Bool, true, false, cond, _&&_, _||_}
-use mathlib.Core.List.{List, [], _∷_, _++_, map}
+use mathlib.Core.Bool.{Bool, true, false, _&&_}
+use mathlib.Core.List.{List, [], _∷_, _++_}
 use mathlib.Core.Path.{_≡_, refl, sym, ap, subst, _∙_}
 use mathlib.Core.Logic.{_⊎_, inl, inr, ⊎-elim}
 use native.Mathlib.Omega.{arith}
@@ -11,15 +11,13 @@ use Rattle.std.specs.Orderings.{Decides}
 use Rattle.std.proofs.shelf.Lists.{append-assoc, append-nil, length-map, length-drop, drop-all}
 use Rattle.std.proofs.shelf.Tests.{false≢true, cases-eq, eqb-true, eq-eqb, leb-true, le-leb, or-cases, or-left, or-right, cond-true}
 use Rattle.std.proofs.shelf.Ways.{decides-like, decides-and, decides-or, decides-eqb, decides-ltb}
-use Rattle.std.specs.declared.result.Result.{Result}
-use Rattle.std.specs.declared.result.Result.the-variants.{Ok, Err}
-use Rattle.wire.specs.declared.refusal.Refusal.{Refusal}
+use Rattle.std.specs.declared.result.Result.the-variants.{Ok}
 use Rattle.wire.specs.Number.{numberAt, groups}
 use Rattle.wire.specs.Reading.{andThen}
 use Rattle.wire.proofs.Numbers.{Bytes, number-form, number-read}
 use Rattle.board.specs.declared.table.Row.{Row}
 use Rattle.board.specs.Arena.{Arena, Lawful}
-use Rattle.board.specs.Lists.{Member, here, there, some, all, any}
+use Rattle.board.specs.Lists.{Member, here, there, all, any}
 use Rattle.board.specs.Ranks.{moves, ranked}
 use Rattle.board.specs.Ranks as ranks
 use Rattle.board.specs.Table.{Ascending, Accepted, row, solution}
@@ -28,7 +26,7 @@ use Rattle.board.proofs.Games.{rank-le}
 use Rattle.board.proofs.Tables.{solution-is-ranked, solution-is-accepted}
 use Rattle.table.specs.declared.audit.Placed.{Placed}
 use Rattle.table.specs.Bytes.{rowBytes, rowsBytes, tableBytes}
-use Rattle.table.specs.Audit.{asked, countAt, rowAt, rowsAt, rowsOf, placed, has-row, lower-row, leads, fallen, wholly, auditOf}
+use Rattle.table.specs.Audit.{countAt, rowAt, rowsAt, rowsOf, placed, has-row, lower-row, leads, fallen, wholly, auditOf}
 use Rattle.table.specs.Law.{Plain, Audit-law, Solution-is-audited}
 use Rattle.table.proofs.Forms.{passed, answered, goes, asks, in-range, Row-good, count-form, row-form, row-taken}
 

@@ -2,8 +2,7 @@
 ghost use mathlib.Core.List.{[]};
 ghost use mathlib.Core.Logic.{_⊎_};
 ghost use mathlib.Core.Path.{_≡_};
-ghost use Prim.Native.Nat.{ℕ, _+_};
-ghost use lib.ListN.{length, replicate};
+ghost use lib.ListN.{replicate};
 ghost use Rattle.std.specs.declared.option.Option.the-variants.{None};
 ghost use Rattle.std.specs.declared.result.Result.the-variants.{Ok, Err};
 ghost use Rattle.std.specs.Of.Vec.{vec-items};
@@ -139,7 +138,7 @@ fn read_rows<B: Board>(
 {
     let mut at = at;
     let mut floor = 0;
-    for i in 0..count {
+    for _ in 0..count {
         let (row, next) = read_row(board, bytes, floor, at)?;
         rows.push(Placed { place: at, row })?;
         ranks[row.position as usize] = Some(row.rank);

@@ -1,14 +1,13 @@
-use mathlib.Core.Path.{_≡_, refl, sym, ap, subst, _∙_}
+use mathlib.Core.Path.{_≡_, sym, ap, subst, _∙_}
 use mathlib.Core.Bool.{Bool}
 use mathlib.Core.List.{List, _++_, _∷_, []}
 use Prim.Native.Nat.{_+_}
 use lib.ListN.{getD, drop}
-use mathlib.Core.Logic.{inl, inr}
-use native.Mathlib.Omega.{arith}
+use mathlib.Core.Logic.{inl}
 use Rattle.std.specs.Of.Vec.{vec-items}
 use Rattle.board.specs.Rounds.{held}
 use Rattle.board.specs.declared.table.Row.{Row}
-use Rattle.std.specs.declared.result.Result.the-variants.{Ok, Err}
+use Rattle.std.specs.declared.result.Result.the-variants.{Err}
 use Rattle.table.specs.Audit.{leads, fallen}
 use Rattle.table.proofs.Turns.{kept, noPlaced, falling-none, falling-more, falling-stops, falling-all}
 use Rattle.table.proofs.audit.falling_rows.Needs as need

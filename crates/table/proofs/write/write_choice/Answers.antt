@@ -1,4 +1,3 @@
-use mathlib.Core.Path.{refl}
 use Rattle.table.proofs.Putting.{choice-blank, choice-played, puts-number}
 use Rattle.table.proofs.write.write_choice.Needs as need
 

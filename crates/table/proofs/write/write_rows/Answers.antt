@@ -1,5 +1,3 @@
-use mathlib.Core.Path.{_≡_}
-use native.Mathlib.Omega.{arith}
 use Rattle.table.specs.Bytes.{rowsBytes}
 use Rattle.table.proofs.Putting.{put-on-none, put-on-more, put-on-stops, put-on-all, puts-stops, noRow}
 use Rattle.table.proofs.write.write_rows.Needs as need
