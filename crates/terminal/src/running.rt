@@ -1,5 +1,8 @@
 // Runs the chart's table against replies that the demonstration holds.
+ghost use mathlib.Core.List.{List};
 ghost use mathlib.Core.Path.{_≡_};
+ghost use Rattle.board.specs.Charts.{chartArena};
+ghost use Rattle.run.specs.Run.{spent, step};
 ghost use Rattle.std.specs.Of.Vec.{vec-items};
 ghost use Rattle.std.specs.Vec.{made};
 ghost use Rattle.std.specs.declared.result.Result.the-variants.{Ok};
@@ -7,6 +10,7 @@ ghost use Rattle.table.specs.Audit.{auditOf};
 use board::board::Board;
 use board::chart::Chart;
 use board::chart::shows::ChartBoard;
+use board::table::Row;
 use board::table::Table;
 use run::event::Answer;
 use run::event::Event;
@@ -14,6 +18,7 @@ use run::look::Look;
 use run::look::Phase;
 use run::replay::replay;
 use run::run::Run;
+use run::slip::Slip;
 use std::alloc::Global;
 use std::error::AnyError;
 use table::audited::AuditedTable;
@@ -72,6 +77,13 @@ fn rehearse(
     show(rt, "now", run.look())
 }
 
+// Reports the reply with the slip, which comes back where the report is refused.
+fn report(run: &mut Run, slip: Slip, chart: &Chart, reply: u16) -> Result<(), (Refusal, Slip)>
+    ensures { λ r. ⌜ ((rows : List Row) → (r, now (run .exit) .rec) ≡ spent slip (step (chartArena (now (chart .entry))) rows (now (run .entry) .rec) (Event.Report (slip .run) reply))) ⌝ }
+{
+    run.report(slip, chart, reply)
+}
+
 // Delegates, and reports the reply; a refused report gives the slip up.
 fn turn(
     rt: &LibcRuntime,
@@ -87,7 +99,7 @@ fn turn(
             return Ok(());
         }
     };
-    if let Err((refusal, slip)) = run.report(slip, chart, reply) {
+    if let Err((refusal, slip)) = report(run, slip, chart, reply) {
         if let Err((_, _back)) = run.waive(slip) {
             return Ok(());
         }
