@@ -1,0 +1,10 @@
+pub mod Services
+pub mod Sales
+pub mod Places
+pub mod Composed
+pub mod Law
+pub mod Products
+pub mod Layout
+pub mod Boards
+pub mod Lays
+pub mod Composing
