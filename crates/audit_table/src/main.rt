@@ -1,4 +1,6 @@
 // Audits a supplier's table (table.bin) on a repair chart (chart.bin).
+#![tactic(auto)]
+
 use board::chart::Chart;
 use board::chart::reader::read_chart;
 use std::fs;

@@ -1,4 +1,6 @@
 // The classes of a task's traces, and the table of steps between them.
+#![tactic(auto)]
+
 pub mod automaton;
 mod class_set;
 mod flags;

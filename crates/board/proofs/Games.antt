@@ -1,8 +1,8 @@
 -- Any game: what is won is what some orchestrator forces, and images of games.
-use Rattle.std.proofs.Common.{◌≡◌, ℕ, zero, suc, ◌+◌, ◌-◌, ◌<◌, ◌≤◌, Bool, true, false, cond, ◌&&◌, ◌||◌, ◌⊎◌, List, [], ◌∷◌, map, Some, None, Decides, Option, sym, refl, ap, ◌∙◌, subst, ap₂, inl, inr, ⊎_elim, arith}
+use Rattle.std.proofs.Common.{◌≡◌, ℕ, zero, suc, ◌+◌, ◌-◌, ◌<◌, ◌≤◌, Bool, true, false, cond, ◌&&◌, ◌||◌, List, [], ◌∷◌, map, Some, None, Decides, Option, sym, refl, ap, ◌∙◌, subst, ap₂, inl, inr, ⊎_elim, arith}
 use Rattle.std.proofs.lemmas.Bool.{both_ways, cases_Bool, cases_eq, and_parts, and_from, or_left, or_right, or_cases, cond-true, cond-false}
-use Rattle.board.specs.Lists.{Member, here, there, all, some, any_below, least}
-use Rattle.board.specs.Game.{Game, forced, round, won, rank_to, choice_to, Unfinished, begun, moved, Forces, Within, next_rank, found_by, rank_if}
+use Rattle.board.specs.Lists.{Member, here, there, all, some, any_below}
+use Rattle.board.specs.Game.{Game, forced, won, rank_to, choice_to, Unfinished, begun, moved, Forces, Within, next_rank, found_by, rank_if}
 use Rattle.board.proofs.Basics.{all_from, all_at, some_has, any_at, any_has, least_le, least_at, least_exact, least_before}
 
 -- at a ranked place that is not done, the lowest choice is playable and leads to lower ranks only

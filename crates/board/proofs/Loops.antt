@@ -1,8 +1,8 @@
 -- Loops of steps that can refuse.
-use Rattle.std.proofs.Common.{◌≡◌, ℕ, ◌-◌, ◌≤◌, ◌⊎◌, List, IsErrAnd, Ok, Err, Result, sym, refl, ap, ◌∙◌, subst, arith}
+use Rattle.std.proofs.Common.{◌≡◌, ℕ, ◌-◌, ◌≤◌, ◌⊎◌, List, IsErrAnd, Ok, Err, Result, sym, ap, ◌∙◌, subst, arith}
 use Rattle.std.proofs.lemmas.Result.{err_from_is_err_and}
 use Rattle.wire.specs.declared.refusal.Refusal.{Refusal}
-use Rattle.wire.specs.Reading.{and_then, steps}
+use Rattle.wire.specs.Reading.{steps}
 use Rattle.wire.specs.Refusals.{no_memory}
 use Rattle.board.specs.declared.place.Place.{Place}
 use Rattle.board.specs.Reading.{Placed}

@@ -1,7 +1,6 @@
 -- Values that are put into a list one after another.
-use Rattle.std.proofs.Common.{◌≡◌, ℕ, zero, suc, ◌+◌, ◌<◌, ◌≤◌, List, [], ◌∷◌, ◌++◌, length, get_or, take, set, sym, refl, ap, ◌∙◌, subst, ap₂, ⊎_elim, add-one, arith, get_or-set_other, get_or-set_same, take-suc-set}
-use Rattle.std.proofs.lemmas.List.{length-set, append_assoc, get_or_past}
-use Rattle.std.proofs.lemmas.Bool.{cases_lt}
+use Rattle.std.proofs.Common.{◌≡◌, ℕ, zero, suc, ◌+◌, ◌<◌, ◌≤◌, List, [], ◌∷◌, ◌++◌, length, get_or, take, set, sym, refl, ap, ◌∙◌, ap₂, add-one, arith, get_or-set_other, get_or-set_same, take-suc-set}
+use Rattle.std.proofs.lemmas.List.{length-set, append_assoc}
 use Rattle.board.specs.ChartFile.{pieces}
 
 -- ys from place i on

@@ -1,5 +1,5 @@
 -- What is won on a board, by rounds and by orchestrators.
-use Rattle.std.proofs.Common.{◌≡◌, ℕ, zero, suc, ◌+◌, ◌-◌, ◌<◌, ◌≤◌, Bool, true, false, ◌&&◌, ◌||◌, leb, ◌⊎◌, List, [], ◌∷◌, sym, refl, ap, ◌∙◌, subst, inl, inr, ⊎_elim, arith}
+use Rattle.std.proofs.Common.{◌≡◌, ℕ, zero, suc, ◌+◌, ◌-◌, ◌<◌, ◌≤◌, true, false, ◌&&◌, leb, ◌⊎◌, [], sym, refl, ap, ◌∙◌, subst, inl, inr, ⊎_elim, arith}
 use mathlib.Core.Path.{fun_ext}
 use Rattle.std.proofs.lemmas.Bool.{both_ways, true≢false, cases_Bool, cases_eq, cases_lt, and_parts, and_from, or_cases, leb-true, le-leb}
 use Rattle.std.proofs.lemmas.Bool.Decides.{same_from_decides}
@@ -10,7 +10,7 @@ use Rattle.board.specs.Arena.{Arena, Lawful}
 use Rattle.board.specs.Ranks.{moves, won, ranked, rank, choice, History, onto, histories, Orchestrator, Forces}
 use Rattle.board.specs.Law.{WonIsForced, RoundsEnd, RankedIsForced, RankIsLeast, Hopeless, read, named, Play, Succeeds, EveryPlaySucceeds, ForcesIsWithin, LawOfRounds}
 use Rattle.board.proofs.Basics.{any_has, least_exact, count_le, count_more, map_back}
-use Rattle.board.proofs.Games.{Image, some_map, member_map, forces_within, within_forces, as_found, rank_won, won_more, won_later, rank_le, forced_won, lowest_force, pull_back, won_is_forced_here}
+use Rattle.board.proofs.Games.{Image, some_map, member_map, forces_within, within_forces, as_found, rank_won, won_more, won_later, rank_le, lowest_force, pull_back, won_is_forced_here}
 
 -- a board is the image of its histories
 abbrev Any : History → Type 0

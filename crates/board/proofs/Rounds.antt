@@ -1,13 +1,12 @@
 -- The steps of a search through lists, and of one round over the ranks.
-use Rattle.std.proofs.Common.{◌≡◌, ℕ, zero, suc, ◌+◌, ◌-◌, ◌<◌, ◌≤◌, Bool, true, false, cond, ◌&&◌, ◌||◌, eqb, ltb, leb, ◌≢◌, ◌⊎◌, List, [], ◌∷◌, length, get_or, drop, set, is_some, Some, None, Option, sym, refl, ap, ◌∙◌, subst, ap₂, inl, inr, ⊎_elim, add-one, arith, drop-cons, get_or-set_other, get_or-set_same}
+use Rattle.std.proofs.Common.{◌≡◌, ℕ, zero, suc, ◌+◌, ◌<◌, ◌≤◌, Bool, true, false, ◌&&◌, ◌||◌, ◌≢◌, List, [], ◌∷◌, length, get_or, drop, set, is_some, Some, None, Option, sym, refl, ap, ◌∙◌, ap₂, ⊎_elim, add-one, arith, drop-cons, get_or-set_other, get_or-set_same}
 use mathlib.Core.Path.{fun_ext}
-use Rattle.std.proofs.lemmas.Bool.{both_ways, true≢false, false≢true, cases_Bool, cases_eq, cases_lt, cond-true, cond-false, and_from, and_parts, or_cases, or_right, le-ltb}
+use Rattle.std.proofs.lemmas.Bool.{false≢true, cases_eq, cases_lt, cond-false, le-ltb}
 use Rattle.board.specs.Lists.{all, some, any_below, least}
 use Rattle.board.specs.Arena.{Arena, Lawful}
-use Rattle.board.specs.Game.{forced, won, rank_to, next_rank, found_by, rank_if}
+use Rattle.board.specs.Game.{forced, next_rank}
 use Rattle.board.specs.Ranks.{moves}
-use Rattle.board.specs.Rounds.{under, held, wins_by, winnable, raised, Found, Settled}
-use Rattle.board.proofs.Basics.{any_at, any_has, least_exact}
+use Rattle.board.specs.Rounds.{under, held, wins_by, winnable, raised}
 
 -- every element so far has passed
 drop_at : {A : Type 0} (f : A → Bool) (xs : List A) (i : ℕ) (d : A) → i < length xs → all f (drop i xs) ≡ (f (get_or xs i d) && all f (drop (i + 1) xs))

@@ -1,11 +1,11 @@
 -- Rows from settled ranks.
-use Rattle.std.proofs.Common.{◌≡◌, ℕ, zero, suc, ◌+◌, ◌-◌, ◌<◌, ◌≤◌, Bool, true, false, cond, ltb, ◌⊎◌, List, [], ◌∷◌, ◌++◌, length, get_or, is_some, IsErrAnd, Some, None, Ok, Err, Option, Result, sym, refl, ap, ◌∙◌, subst, ap₂, inl, inr, ⊎_elim, append_assoc, append-nil, add-one, arith, MatchResult}
+use Rattle.std.proofs.Common.{◌≡◌, ℕ, zero, suc, ◌+◌, ◌-◌, ◌<◌, ◌≤◌, Bool, true, false, cond, ◌⊎◌, List, [], ◌∷◌, ◌++◌, get_or, is_some, IsErrAnd, Some, None, Ok, Err, Option, Result, sym, refl, ap, ◌∙◌, subst, ⊎_elim, append_assoc, append-nil, add-one, arith, MatchResult}
 use mathlib.Core.Path.{fun_ext}
 use Rattle.std.proofs.lemmas.Bool.{both_ways, false≢true, cases_Bool, cases_lt, cond-true, cond-false, lt-ltb, le-ltb}
 use Rattle.board.specs.declared.table.Row.{Row}
 use Rattle.board.specs.Lists.{Member, least}
 use Rattle.board.specs.Arena.{Arena, Lawful}
-use Rattle.board.specs.Game.{forced, rank_if}
+use Rattle.board.specs.Game.{forced}
 use Rattle.board.specs.Ranks.{moves, won, ranked, rank, choice}
 use Rattle.board.specs.Rounds.{under, held, wins_by, Settled}
 use Rattle.board.specs.Table.{Accepted, rank_in, row, keep, rows_from, solution}

@@ -1,15 +1,15 @@
 -- Rounds find what they should, and once one adds nothing every rank is found.
-use Rattle.std.proofs.Common.{◌≡◌, ℕ, zero, suc, ◌+◌, ◌-◌, ◌<◌, ◌≤◌, Bool, true, false, cond, ◌&&◌, ◌||◌, ltb, leb, ◌≢◌, ◌⊎◌, List, [], ◌∷◌, length, get_or, set, is_some, Some, None, Option, sym, refl, ap, ◌∙◌, subst, ap₂, inl, inr, ⊎_elim, add-one, arith, get_or-set_other, get_or-set_same}
+use Rattle.std.proofs.Common.{◌≡◌, ℕ, suc, ◌+◌, ◌<◌, ◌≤◌, Bool, true, false, cond, ◌||◌, List, length, get_or, set, is_some, Some, None, Option, sym, refl, ap, ◌∙◌, ⊎_elim, add-one, arith, get_or-set_other, get_or-set_same}
 use mathlib.Core.Path.{fun_ext}
 use Rattle.std.proofs.lemmas.List.{get_or_past}
-use Rattle.std.proofs.lemmas.Bool.{both_ways, cases_Bool, cases_eq, cases_lt, cond-true, cond-false, lt-ltb}
+use Rattle.std.proofs.lemmas.Bool.{cases_Bool, cases_eq, cases_lt, cond-true, cond-false, lt-ltb}
 use Rattle.board.specs.Lists.{any_below}
 use Rattle.board.specs.Arena.{Arena, Lawful}
 use Rattle.board.specs.Game.{forced, next_rank, found_by, rank_if, rank_to}
-use Rattle.board.specs.Ranks.{moves, won, ranked, rank}
-use Rattle.board.specs.Rounds.{under, held, winnable, raised, Found, Settled}
+use Rattle.board.specs.Ranks.{moves, won}
+use Rattle.board.specs.Rounds.{under, held, raised, Found, Settled}
 use Rattle.board.proofs.Games.{as_found, rank_le, rank_won}
-use Rattle.board.proofs.Ranks.{won_beyond, stays}
+use Rattle.board.proofs.Ranks.{stays}
 use Rattle.board.proofs.Basics.{least_exact, least_before}
 
 -- the done ones among the positions below p have rank 0, and no other of them has a rank

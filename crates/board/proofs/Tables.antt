@@ -1,6 +1,6 @@
 -- Tables: what is found in them, what they force, and that solve's is accepted.
-use Rattle.std.proofs.Common.{◌≡◌, ℕ, zero, suc, ◌+◌, ◌-◌, ◌<◌, ◌≤◌, Bool, true, false, cond, eqb, ltb, ◌⊎◌, List, [], ◌∷◌, length, Some, None, Decides, Option, sym, refl, ap, ◌∙◌, subst, subst₂, inl, inr, ⊎_elim, arith}
-use Rattle.std.proofs.lemmas.Bool.{both_ways, true≢false, false≢true, cases_Bool, cases_eq, cases_lt, cond-true, cond-false, cond_both, eq-eqb, ne_eqb}
+use Rattle.std.proofs.Common.{◌≡◌, ℕ, zero, suc, ◌+◌, ◌<◌, ◌≤◌, Bool, true, false, ◌⊎◌, List, Some, Decides, sym, refl, ap, ◌∙◌, subst, subst₂, inl, inr, ⊎_elim, arith}
+use Rattle.std.proofs.lemmas.Bool.{both_ways, true≢false, false≢true, cases_Bool, cases_eq, cases_lt, cond-true, cond-false, eq-eqb, ne_eqb}
 use Rattle.board.specs.Lists.{Member, here, there, some}
 use Rattle.board.specs.Game as game
 use Rattle.board.specs.Game.{Unfinished, begun, moved}
@@ -10,7 +10,7 @@ use Rattle.board.specs.Ranks as ranks
 use Rattle.board.specs.declared.table.Row.{Row}
 use Rattle.board.specs.Table.{Ascending, Accepted, find, rank_of, choice_of_row, rank_in, choice_in, row, keep, rows_from, solution}
 use Rattle.board.specs.TableLaw.{SolutionIsRanked, SolutionIsAccepted, AcceptedForces, AcceptedIsAbove}
-use Rattle.board.proofs.Basics.{none, first, some_of, some_has, least_le, least_at}
+use Rattle.board.proofs.Basics.{none, first}
 use Rattle.board.proofs.Games.{leads, rank_le, rank_won}
 use Rattle.board.proofs.Ranks.{read_back, forces_won, rank_is_least, rounds_end}
 

@@ -1,8 +1,8 @@
 -- What a chart shows of each position: whether it is done, and the outcomes of each choice.
-use Rattle.std.proofs.Common.{◌≡◌, ℕ, zero, suc, ◌+◌, ◌<◌, ◌≤◌, min, Bool, true, false, cond, not, ◌&&◌, ltb, ◌⊎◌, List, [], ◌∷◌, ◌++◌, map, length, get_or, take, drop, replicate, sym, refl, ap, ◌∙◌, subst, ap₂, inl, inr, ⊎_elim, arith}
+use Rattle.std.proofs.Common.{◌≡◌, ℕ, zero, suc, ◌+◌, ◌<◌, ◌≤◌, Bool, true, false, cond, not, ltb, List, [], ◌∷◌, ◌++◌, map, length, get_or, take, drop, replicate, sym, refl, ap, ◌∙◌, subst, ap₂, ⊎_elim, arith}
 use native.Mathlib.Nat.{min-eq_left}
-use Rattle.std.proofs.lemmas.List.{get_or_past, get_or-map, length-map, get_or-replicate, length-replicate}
-use Rattle.std.proofs.lemmas.Bool.{cases_lt, cases_Bool, cond-true, cond-false, cond_both, and_from, lt-ltb}
+use Rattle.std.proofs.lemmas.List.{get_or_past, get_or-map, length-map, get_or-replicate}
+use Rattle.std.proofs.lemmas.Bool.{cases_lt, cases_Bool, cond-true, cond-false, and_from, lt-ltb}
 use Rattle.wire.specs.Number.{groups}
 use Rattle.board.specs.declared.place.Entry.{Entry}
 use Rattle.board.specs.declared.place.Place.{Place}
@@ -11,8 +11,8 @@ use Rattle.board.specs.Arena.{Arena}
 use Rattle.board.specs.Place.{listed, no_entry, past_entry, past_place, outcomes_in, on_board, is_empty, fits}
 use Rattle.board.specs.Layout.{Sound}
 use Rattle.board.specs.Charts.{arena_of}
-use Rattle.board.specs.ChartFile.{numbers, pieces, choice_bytes, place_bytes, file_bytes, Rising, Charted, Same}
-use Rattle.board.proofs.Puts.{put, length_put, put_after, put_at_lem, take_put, made_by, length_made, get_or_made, Each, each_at, each_made, joined, pieces_list, pieces_same, pieces_made}
+use Rattle.board.specs.ChartFile.{pieces, choice_bytes, place_bytes, file_bytes, Rising, Charted, Same}
+use Rattle.board.proofs.Puts.{put, put_after, put_at_lem, take_put, made_by, length_made, get_or_made, Each, each_at, each_made, joined, pieces_list, pieces_same, pieces_made}
 
 abbrev pub View : Type 0
 View = Bool × List (List ℕ)

@@ -1,5 +1,5 @@
 -- Games of one orchestrator against what may happen. X is what the orchestrator has read so far.
-use Rattle.std.specs.Prelude.{◌≡◌, ℕ, zero, suc, ◌-◌, ◌<◌, ◌≤◌, Bool, true, false, cond, ◌&&◌, ◌||◌, ◌⊎◌, List, [], ◌∷◌, Some, None, Option}
+use Rattle.std.specs.Prelude.{◌≡◌, ℕ, zero, suc, ◌-◌, ◌<◌, Bool, true, false, cond, ◌&&◌, ◌||◌, ◌⊎◌, List, Some, None, Option}
 use Rattle.board.specs.Lists.{Member, all, some, any_below, least}
 
 pub record Game (X : Type 0) : Type 0 where

@@ -1,5 +1,5 @@
 -- The laws of ranks.
-use Rattle.std.specs.Prelude.{◌≡◌, ℕ, zero, suc, ◌-◌, ◌<◌, ◌≤◌, true, false, ◌&&◌, List, [], ◌∷◌, Decides, nat_le}
+use Rattle.std.specs.Prelude.{◌≡◌, ℕ, zero, suc, ◌-◌, ◌<◌, ◌≤◌, true, false, ◌&&◌, List, [], Decides, nat_le}
 use Rattle.board.specs.Lists.{Member, some}
 use Rattle.board.specs.Game.{Within, forced, found_by, rank_if}
 use Rattle.board.specs.Arena.{Arena, Lawful}

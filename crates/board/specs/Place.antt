@@ -1,5 +1,5 @@
 -- How a chart keeps one position: whether it is done, and for each choice the outcomes.
-use Rattle.std.specs.Prelude.{ℕ, min, Bool, true, false, cond, not, ◌&&◌, List, [], take, drop, replicate, nat_lt, slice_index_or}
+use Rattle.std.specs.Prelude.{ℕ, min, Bool, false, cond, not, ◌&&◌, List, [], take, drop, replicate, nat_lt, slice_index_or}
 use Rattle.board.specs.declared.place.Entry.{Entry}
 use Rattle.board.specs.declared.place.Place.{Place}
 use Rattle.board.specs.Lists.{all, some}

@@ -1,5 +1,5 @@
 -- What is won on a board, its ranks and choices, and orchestrators that read the positions so far.
-use Rattle.std.specs.Prelude.{ℕ, ◌<◌, ◌≤◌, Bool, List, [], ◌∷◌, map}
+use Rattle.std.specs.Prelude.{ℕ, Bool, List, [], ◌∷◌, map}
 use Rattle.board.specs.Arena.{Arena}
 use Rattle.board.specs.Game.{Game}
 use Rattle.board.specs.Game as game

@@ -1,5 +1,5 @@
 -- Ranks in a list, as rounds find them.
-use Rattle.std.specs.Prelude.{◌≡◌, ℕ, Bool, true, false, List, Some, None, Option, nat_lt, slice_index_or}
+use Rattle.std.specs.Prelude.{◌≡◌, ℕ, Bool, false, List, Some, None, Option, nat_lt, slice_index_or}
 use Rattle.board.specs.Lists.{any_below}
 use Rattle.board.specs.Arena.{Arena}
 use Rattle.board.specs.Game.{forced, next_rank, found_by, rank_if}

@@ -1,6 +1,6 @@
 -- Tables: rows of positions with their ranks and choices; which of them are accepted, and which solve answers.
-use Rattle.std.specs.Prelude.{◌≡◌, ℕ, zero, suc, ◌<◌, ◌≤◌, Bool, true, false, cond, ◌&&◌, ◌||◌, List, [], ◌∷◌, Some, None, Decides, Option, ◌==◌}
-use Rattle.board.specs.Lists.{Member, some, all, any, same}
+use Rattle.std.specs.Prelude.{◌≡◌, ℕ, zero, suc, ◌<◌, Bool, true, false, cond, List, [], ◌∷◌, Some, None, Decides, Option, ◌==◌}
+use Rattle.board.specs.Lists.{Member, some}
 use Rattle.board.specs.declared.table.Row.{Row}
 use Rattle.board.specs.Arena.{Arena}
 use Rattle.board.specs.Ranks.{ranked}

@@ -1,8 +1,8 @@
 -- The laws of tables.
-use Rattle.std.specs.Prelude.{◌≡◌, ℕ, ◌<◌, ◌≤◌, true, false, List, Decides}
+use Rattle.std.specs.Prelude.{◌≡◌, ℕ, ◌<◌, ◌≤◌, true, List}
 use Rattle.board.specs.Lists.{Member}
 use Rattle.board.specs.Arena.{Arena, Lawful}
-use Rattle.board.specs.Ranks.{ranked, rank, Orchestrator, Forces}
+use Rattle.board.specs.Ranks.{ranked, rank, Forces}
 use Rattle.board.specs.declared.table.Row.{Row}
 use Rattle.board.specs.Table.{Accepted, rank_in, choice_in, row, solution}
 

@@ -1,4 +1,6 @@
 // Boards, their ranks, and the table that solves one.
+#![tactic(auto)]
+
 pub mod board;
 pub mod chart;
 pub mod laws;

@@ -45,7 +45,7 @@ fn wins<B: Board>(
     position: usize,
     choice: usize,
 ) -> bool
-    ensures { result ≡ wins_by (arena board.now) ranks.now limit position choice }
+    ensures { result ≡ wins_by (B.arena board.now) ranks.now limit position choice }
 {
     let outcomes = board.outcomes(position, choice);
     !outcomes.is_empty() && all_ranked(ranks, limit, outcomes)
@@ -53,7 +53,7 @@ fn wins<B: Board>(
 
 // Whether some choice wins there.
 fn winnable_at<B: Board>(board: &B, ranks: &[Option<u16>], limit: u16, position: usize) -> bool
-    ensures { result ≡ winnable (arena board.now) ranks.now limit position }
+    ensures { result ≡ winnable (B.arena board.now) ranks.now limit position }
 {
     for choice in 0..board.choices() {
         if wins(board, ranks, limit, position, choice) {
@@ -65,7 +65,7 @@ fn winnable_at<B: Board>(board: &B, ranks: &[Option<u16>], limit: u16, position:
 
 // The lowest choice that wins there, or the number of choices.
 fn lowest_choice<B: Board>(board: &B, ranks: &[Option<u16>], limit: u16, position: usize) -> usize
-    ensures { result ≡ least (arena board.now).choices (wins_by (arena board.now) ranks.now limit position) }
+    ensures { result ≡ least (B.arena board.now).choices (wins_by (B.arena board.now) ranks.now limit position) }
 {
     let choices = board.choices();
     for choice in 0..choices {
@@ -79,7 +79,7 @@ fn lowest_choice<B: Board>(board: &B, ranks: &[Option<u16>], limit: u16, positio
 // Gives the position the rank if it has none and is winnable by lower ones; says whether it did.
 fn raise<B: Board>(board: &B, ranks: &mut [Option<u16>], rank: u16, position: usize) -> bool
     requires { position < length ranks.old }
-    ensures after { ranks.new ≡ slice_set ranks.old position (raised (arena board.now) ranks.old rank position) }
+    ensures after { ranks.new ≡ slice_set ranks.old position (raised (B.arena board.now) ranks.old rank position) }
     ensures still { result ≡ false → ranks.new ≡ ranks.old }
 {
     if ranks[position].is_none() {
@@ -93,8 +93,8 @@ fn raise<B: Board>(board: &B, ranks: &mut [Option<u16>], rank: u16, position: us
 
 // Gives the rank to every position that has none and is winnable by lower ones; says whether there was one.
 fn round<B: Board>(board: &B, ranks: &mut [Option<u16>], rank: u16) -> bool
-    requires { (arena board.now).positions ≤ length ranks.old }
-    ensures each { (p : ℕ) → slice_index_or ranks.new p None ≡ raised (arena board.now) ranks.old rank p }
+    requires { (B.arena board.now).positions ≤ length ranks.old }
+    ensures each { (p : ℕ) → slice_index_or ranks.new p None ≡ raised (B.arena board.now) ranks.old rank p }
     ensures still { result ≡ false → ranks.new ≡ ranks.old }
 {
     let mut changed = false;
@@ -108,8 +108,8 @@ fn round<B: Board>(board: &B, ranks: &mut [Option<u16>], rank: u16) -> bool
 
 // No steps: the done positions have rank 0.
 fn begin<B: Board>(board: &B, ranks: &mut [Option<u16>])
-    requires { (arena board.now).positions ≤ length ranks.old }
-    ensures { Found (arena board.now) 0 ranks.new }
+    requires { (B.arena board.now).positions ≤ length ranks.old }
+    ensures { Found (B.arena board.now) 0 ranks.new }
 {
     for position in 0..ranks.len() {
         ranks[position] = if board.is_done(position) {
@@ -122,8 +122,8 @@ fn begin<B: Board>(board: &B, ranks: &mut [Option<u16>])
 
 // The rank of every position that has one.
 fn settle<B: Board>(board: &B, ranks: &mut [Option<u16>])
-    requires { (arena board.now).positions ≤ length ranks.old }
-    ensures { Settled (arena board.now) ranks.new }
+    requires { (B.arena board.now).positions ≤ length ranks.old }
+    ensures { Settled (B.arena board.now) ranks.new }
 {
     begin(board, ranks);
     for steps in 0..board.positions() {
@@ -135,10 +135,10 @@ fn settle<B: Board>(board: &B, ranks: &mut [Option<u16>])
 
 // The row of a position that has the rank.
 fn row_at<B: Board>(board: &B, ranks: &[Option<u16>], position: usize, rank: u16) -> Row
-    requires inside { position < (arena board.now).positions }
-    requires settled { Settled (arena board.now) ranks.now }
+    requires inside { position < (B.arena board.now).positions }
+    requires settled { Settled (B.arena board.now) ranks.now }
     requires ranked { slice_index_or ranks.now position None ≡ Some rank }
-    ensures { result ≡ row (arena board.now) position }
+    ensures { result ≡ row (B.arena board.now) position }
 {
     let choice = if rank == 0 {
         0
@@ -154,10 +154,10 @@ fn row_at<B: Board>(board: &B, ranks: &[Option<u16>], position: usize, rank: u16
 
 // The rows of all positions that have a rank, into an empty list.
 fn fill<B: Board>(board: &B, ranks: &[Option<u16>], rows: &mut Vec<Row>) -> Result<(), Refusal>
-    requires room { (arena board.now).positions ≤ length ranks.now }
-    requires settled { Settled (arena board.now) ranks.now }
+    requires room { (B.arena board.now).positions ≤ length ranks.now }
+    requires settled { Settled (B.arena board.now) ranks.now }
     requires empty { rows.old.items ≡ [] }
-    ensures { MatchResult result (λ _. rows.new.items ≡ solution (arena board.now)) (λ e. e ≡ no_memory) }
+    ensures { MatchResult result (λ _. rows.new.items ≡ solution (B.arena board.now)) (λ e. e ≡ no_memory) }
 {
     for position in 0..board.positions() {
         if let Some(rank) = ranks[position] {
@@ -169,8 +169,8 @@ fn fill<B: Board>(board: &B, ranks: &[Option<u16>], rows: &mut Vec<Row>) -> Resu
 
 // Fills the table with the row of every position that has a rank; refuses where the start has none.
 pub fn solve<B: Board>(board: &B, out: &mut Table) -> Result<(), Refusal>
-    ensures solves { Solved (arena board.now) result out.new.rows.items }
-    ensures law { SolveLaw (arena board.now) result out.new.rows.items }
+    ensures solves { Solved (B.arena board.now) result out.new.rows.items }
+    ensures law { SolveLaw (B.arena board.now) result out.new.rows.items }
 {
     out.rows.clear();
     let mut ranks = [None; MOST];

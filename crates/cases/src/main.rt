@@ -1,4 +1,6 @@
 // Answers test vectors: one call to a line on standard input, one answer to a line on standard output.
+#![tactic(auto)]
+
 mod boards;
 mod lives;
 mod roll;

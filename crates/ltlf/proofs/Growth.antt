@@ -1,17 +1,16 @@
 -- A formula is read: its sign, and then its operands.
-use Rattle.std.proofs.Common.{◌≡◌, ℕ, suc, ◌+◌, ◌-◌, ◌<◌, ◌≤◌, max, cond, ◌⊎◌, List, [], ◌∷◌, ◌++◌, length, drop, set, Ok, Err, Result, sym, refl, ap, ◌∙◌, subst, ap₂, inl, inr, ⊎_elim, append_assoc, arith, length-append, length-set}
+use Rattle.std.proofs.Common.{◌≡◌, ℕ, suc, ◌+◌, ◌-◌, ◌≤◌, List, [], ◌∷◌, ◌++◌, length, drop, set, Ok, Err, Result, sym, ap, ◌∙◌, inl, inr, ⊎_elim, append_assoc, arith, length-append, length-set}
 use lib.Seq.{set-append_seam}
 use Rattle.wire.specs.declared.refusal.Refusal.{Refusal}
-use Rattle.wire.specs.Refusals.{no_memory}
 use Rattle.ltlf.specs.declared.node.Node.{Node}
 use Rattle.ltlf.specs.declared.reader.Progress.{Progress}
 use Rattle.ltlf.specs.declared.reader.Operands.{Operands}
 use Rattle.ltlf.specs.declared.reader.Operands.TheVariants as operands
-use Rattle.ltlf.specs.Formula.{Formula, print, size, levels, temporals, Letters}
-use Rattle.ltlf.specs.Nodes.{flat, temporal}
+use Rattle.ltlf.specs.Formula.{Formula, print, size}
+use Rattle.ltlf.specs.Nodes.{flat}
 use Rattle.ltlf.specs.Prefix.{strip, judge, owing, operands_of}
 use Rattle.ltlf.specs.Steps.{with_second, Taken, Grown, Grows, seen, next_verdict}
-use Rattle.ltlf.proofs.Forms.{spelt, length_flat, Lone, Before, BeforeBoth, lone, before, before_both}
+use Rattle.ltlf.proofs.Forms.{spelt, length_flat, lone, before, before_both}
 
 -- one more node
 length_push : (xs : List Node) (x : Node) → length (xs ++ x ∷ []) ≡ suc (length xs)

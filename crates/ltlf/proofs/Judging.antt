@@ -1,12 +1,10 @@
 -- Steps of the verdict on a text.
-use Rattle.std.proofs.Common.{◌≡◌, ℕ, suc, ◌+◌, ◌-◌, ◌<◌, ◌≤◌, Bool, true, false, cond, List, [], ◌∷◌, ◌++◌, length, get_or, drop, Some, None, Ok, Err, Option, Result, sym, refl, ap, ◌∙◌, subst, add-one, arith}
+use Rattle.std.proofs.Common.{◌≡◌, ℕ, suc, ◌+◌, ◌<◌, ◌≤◌, true, false, List, [], ◌∷◌, length, get_or, drop, Some, None, Err, sym, ap, ◌∙◌, add-one}
 use Rattle.std.proofs.lemmas.List.{drop_more, drop_all}
 use Rattle.std.proofs.lemmas.Bool.{cond-true, cond-false}
 use Rattle.wire.specs.declared.refusal.Cause.{Cause}
-use Rattle.wire.specs.declared.refusal.Refusal.{Refusal}
 use Rattle.wire.specs.Refusals.{refused}
 use Rattle.ltlf.specs.Prefix.{Seen, node_of, blank, strip, fault_of, after, unless, ended, judge}
-use Rattle.ltlf.specs.Steps.{Skipped}
 
 -- what stands at place i of the text: a blank, a sign, or nothing
 module _ (bs : List ℕ) (i : ℕ) where

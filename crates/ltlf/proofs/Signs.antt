@@ -1,14 +1,13 @@
 -- What taking one sign does to the verdict.
-use Rattle.std.proofs.Common.{◌≡◌, ℕ, suc, ◌+◌, ◌-◌, ◌<◌, ◌≤◌, Bool, true, false, cond, ◌&&◌, ltb, leb, List, [], ◌∷◌, ◌++◌, length, get_or, drop, Some, None, Ok, Err, Option, sym, refl, ap, ◌∙◌, subst, add-one, arith}
+use Rattle.std.proofs.Common.{◌≡◌, ℕ, suc, ◌+◌, ◌-◌, ◌<◌, ◌≤◌, Bool, true, false, cond, List, ◌∷◌, length, get_or, drop, Some, None, Err, Option, sym, refl, ap, ◌∙◌, subst, add-one, arith}
 use Rattle.std.proofs.lemmas.Bool.Decides.{nat_tests}
-use Rattle.std.proofs.lemmas.Bool.{leb-false, le-ltb, ltb-false}
 use Rattle.wire.specs.declared.refusal.Cause.{Cause}
 use Rattle.wire.specs.declared.refusal.Cause.TheVariants as cause
 use Rattle.wire.specs.Refusals.{refused}
 use Rattle.ltlf.specs.Nodes.{temporal}
 use Rattle.ltlf.specs.declared.node.Node.{Node}
 use Rattle.ltlf.specs.declared.reader.Progress.{Progress}
-use Rattle.ltlf.specs.Prefix.{Seen, sign_node, node_of, strip, beyond, limit, fault_of, after, judge, owing, operands_of}
+use Rattle.ltlf.specs.Prefix.{sign_node, node_of, strip, beyond, limit, fault_of, after, judge, owing, operands_of}
 use Rattle.ltlf.specs.Steps.{Skipped, Taken, seen, next_verdict}
 use Rattle.ltlf.proofs.Judging.{sign_text, sign_refused, sign_taken, text_ends}
 

@@ -1,12 +1,11 @@
 -- From the reading of a text to the task that it leaves.
-use Rattle.std.proofs.Common.{◌≡◌, ℕ, ◌<◌, ◌≤◌, true, false, cond, leb, ◌⊎◌, List, [], ◌∷◌, length, is_ok, Ok, Err, Result, sym, refl, ap, ◌∙◌, inl, inr, ⊎_elim, arith}
+use Rattle.std.proofs.Common.{◌≡◌, ℕ, ◌≤◌, true, false, cond, leb, List, [], length, is_ok, Ok, Err, Result, sym, refl, ap, ◌∙◌, inl, inr, ⊎_elim, arith}
 use Rattle.std.proofs.lemmas.Bool.{true≢false, leb-true, and_parts}
 use Rattle.wire.specs.declared.refusal.Cause.TheVariants as cause
 use Rattle.wire.specs.declared.refusal.Refusal.{Refusal}
 use Rattle.wire.specs.Refusals.{refused}
 use Rattle.ltlf.specs.declared.node.Node.{Node}
-use Rattle.ltlf.specs.Formula.{Formula, size}
-use Rattle.ltlf.specs.Nodes.{flat, formula_of, temporal_nodes}
+use Rattle.ltlf.specs.Nodes.{formula_of, temporal_nodes}
 use Rattle.ltlf.specs.Prefix.{judge, start, in_range, verdict, Read}
 use Rattle.ltlf.specs.Steps.{Whole}
 use Rattle.ltlf.proofs.Back.{formula_back}

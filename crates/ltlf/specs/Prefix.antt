@@ -1,5 +1,5 @@
 -- Reading a task's text byte by byte: the first byte that cannot stand there, or the end of the text.
-use Rattle.std.specs.Prelude.{◌≡◌, ℕ, suc, ◌+◌, ◌-◌, ◌≤◌, Bool, true, false, cond, ◌&&◌, ◌||◌, ◌⊎◌, List, [], ◌∷◌, ◌++◌, Some, None, Ok, Err, Option, Result, ◌==◌, nat_le, nat_lt}
+use Rattle.std.specs.Prelude.{◌≡◌, ℕ, suc, ◌+◌, ◌-◌, Bool, true, false, cond, ◌&&◌, ◌||◌, ◌⊎◌, List, [], ◌∷◌, Some, None, Ok, Err, Option, Result, ◌==◌, nat_le, nat_lt}
 use Rattle.wire.specs.declared.refusal.Cause.{Cause}
 use Rattle.wire.specs.declared.refusal.Cause.TheVariants as cause
 use Rattle.wire.specs.declared.refusal.Refusal.{Refusal}

@@ -1,4 +1,6 @@
 // Tasks: formulas of linear temporal logic on finite traces, their text and their truth.
+#![tactic(auto)]
+
 pub mod node;
 pub mod reader;
 pub mod rules;

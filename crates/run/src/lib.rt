@@ -1,4 +1,6 @@
 // Runs of a table on a board: delegate a choice, report where it led.
+#![tactic(auto)]
+
 pub mod event;
 pub mod look;
 pub mod record;

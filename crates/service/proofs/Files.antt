@@ -1,18 +1,16 @@
 -- The accepted bytes are those of the files with every number in its field.
-use Rattle.std.proofs.Common.{◌≡◌, ℕ, zero, suc, ◌+◌, ◌-◌, ◌^◌, ◌<◌, ◌≤◌, false, cond, ltb, List, [], ◌++◌, length, get_or, drop, replicate, Ok, Err, Result, sym, refl, ap, ◌∙◌, subst, ⊎_elim, arith, length-drop, pow_pos, pow_mono}
+use Rattle.std.proofs.Common.{◌≡◌, ℕ, ◌+◌, ◌-◌, ◌^◌, ◌<◌, ◌≤◌, false, cond, ltb, List, [], ◌++◌, length, get_or, drop, replicate, Ok, Err, Result, sym, refl, ap, ◌∙◌, subst, ⊎_elim, arith, length-drop, pow_pos, pow_mono}
 use Rattle.std.proofs.lemmas.List.{append_assoc, append-nil, drop_all}
 use Rattle.std.proofs.lemmas.Bool.{cases_lt, lt-ltb, le-ltb, cond-false}
 use Rattle.std.proofs.lemmas.Bool.Decides.{nat_tests}
-use Rattle.wire.specs.declared.refusal.Cause.TheVariants as cause
 use Rattle.wire.specs.declared.refusal.Refusal.{Refusal}
-use Rattle.wire.specs.Refusals.{refused}
-use Rattle.wire.specs.Reading.{and_then, steps}
+use Rattle.wire.specs.Reading.{and_then}
 use Rattle.wire.specs.Number.{number_at, groups}
 use Rattle.wire.proofs.Numbers.{Bytes, number_form, number_read}
 use Rattle.service.specs.declared.service.Service.{Service}
 use Rattle.wire.specs.Fields.{field, ranged}
 use Rattle.service.specs.FileTables.{file_lawful, ServicesLawful}
-use Rattle.service.specs.File.{Contents, entry_of, row_of, table_of, service_of, services_of, file_of, no_service, zero_row, zero_service, pieces, row_bytes, service_bytes, bytes_of, Filled, RowWithin, ServiceWithin, Within, ServicesLaw}
+use Rattle.service.specs.File.{Contents, entry_of, row_of, table_of, service_of, services_of, file_of, no_service, zero_row, zero_service, pieces, row_bytes, service_bytes, bytes_of, RowWithin, ServiceWithin, Within, ServicesLaw}
 use Rattle.service.proofs.Slots.{passed, Reads-slot, filled_read, Takes-slot, filled_taken}
 
 in_range_lem : (at low high : ℕ) (r : Result (ℕ × ℕ) Refusal) (p : ℕ × ℕ) → ranged at low high r ≡ Ok p → (r ≡ Ok p) × (low ≤ p.0) × (p.0 ≤ high)

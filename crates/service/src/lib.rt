@@ -1,4 +1,6 @@
 // Services: the services file, communities of services, and the paper roll.
+#![tactic(auto)]
+
 pub mod community;
 pub mod file;
 pub mod limits;

@@ -1,4 +1,6 @@
 // Runs one task to its end against a paper roll, and prints what was done; then solves a repair chart and runs its table.
+#![tactic(auto)]
+
 mod running;
 mod solving;
 

@@ -1,9 +1,9 @@
 -- What `read_number` says of bytes whose first ones are known.
-use Rattle.std.proofs.Common.{◌≡◌, ℕ, ◌+◌, ◌-◌, ◌*◌, ◌/◌, ◌%◌, ◌<◌, ◌≤◌, cond, List, [], ◌∷◌, ◌++◌, length, get_or, take, drop, sym, refl, ap, ◌∙◌, ⊎_elim, arith}
+use Rattle.std.proofs.Common.{◌≡◌, ℕ, ◌+◌, ◌-◌, ◌*◌, ◌<◌, ◌≤◌, List, [], ◌∷◌, length, get_or, take, drop, ⊎_elim, arith}
 use Rattle.std.proofs.lemmas.List.{take_rest}
 use Rattle.std.proofs.lemmas.Bool.Decides.{nat_tests}
 use Rattle.std.proofs.lemmas.Bool.{cases_lt}
-use Rattle.wire.specs.Number.{read_number, Reading, value, refusal, groups, Begins, RoundTrip}
+use Rattle.wire.specs.Number.{read_number, value, Begins, RoundTrip}
 
 abbrev pub rest : ℕ → List ℕ → List ℕ
 rest i xs = take (length xs - i) (drop i xs)

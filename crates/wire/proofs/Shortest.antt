@@ -1,7 +1,7 @@
 -- The bytes of a number are its shortest form.
-use Rattle.std.proofs.Common.{◌≡◌, ℕ, ◌+◌, ◌*◌, ◌/◌, ◌%◌, ◌<◌, ◌≤◌, ltb, List, [], ◌∷◌, length, sym, ◌∙◌, subst, ⊎_elim, arith}
+use Rattle.std.proofs.Common.{◌≡◌, ℕ, ◌+◌, ◌/◌, ◌%◌, ◌<◌, ◌≤◌, ltb, List, [], ◌∷◌, length, sym, ◌∙◌, subst, ⊎_elim, arith}
 use Rattle.std.proofs.lemmas.Bool.{cases_lt, cond-true, cond-false, lt-ltb, le-ltb}
-use Rattle.wire.specs.Number.{largest, groups, worth, Form, Shortest}
+use Rattle.wire.specs.Number.{largest, worth, Form, Shortest}
 
 -- a form of one byte is worth less than 128, and one of two less than 16,384
 one_byte : (cs : List ℕ) → Form cs → length cs ≤ 1 → worth cs < 128

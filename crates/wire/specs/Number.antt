@@ -1,5 +1,5 @@
 -- Numbers in groups of seven bits, lowest group first; the top bit is set on every byte but the last.
-use Rattle.std.specs.Prelude.{◌≡◌, ℕ, ◌+◌, ◌-◌, ◌*◌, ◌/◌, ◌%◌, ◌<◌, ◌≤◌, Bool, cond, ◌||◌, ◌⊎◌, List, [], ◌∷◌, ◌++◌, length, take, drop, set, Ok, Err, Result, ◌==◌, nat_lt, slice_index, slice_set}
+use Rattle.std.specs.Prelude.{◌≡◌, ℕ, ◌+◌, ◌-◌, ◌*◌, ◌/◌, ◌%◌, ◌<◌, ◌≤◌, cond, ◌||◌, ◌⊎◌, List, [], ◌∷◌, ◌++◌, length, take, drop, Ok, Err, Result, ◌==◌, nat_lt, slice_index, slice_set}
 use Rattle.wire.specs.declared.refusal.Cause.{Cause}
 use Rattle.wire.specs.declared.refusal.Cause.TheVariants as cause
 use Rattle.wire.specs.declared.refusal.Refusal.{Refusal}

@@ -1,4 +1,6 @@
 // What every layer shares: refusals and the number format.
+#![tactic(auto)]
+
 pub mod field;
 pub mod number;
 pub mod refusal;

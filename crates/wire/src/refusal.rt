@@ -1,7 +1,8 @@
 // Why a call said no, and where.
-ghost use Rattle.std.specs.Prelude.{◌≡◌, Some, Decides};
+ghost use Rattle.std.specs.Prelude.{◌≡◌, Some, Decides, nat_eq};
 ghost use Rattle.wire.specs.Refusals.{number_of, shown_text, NumbersDiffer, no_memory, refused};
 ghost use Rattle.std.specs.Cmp.Rules.{comparing};
+ghost use Rattle.std.specs.Ordering.{on, eq_of_both};
 ghost use Rattle.std.proofs.Common.{rules};
 ghost use Rattle.std.specs.Cmp as Keys;
 
@@ -50,7 +51,7 @@ pub enum Cause {
 }
 
 // A refusal: its cause, and the place in the input that it speaks of (0 where there is none).
-#[derive(Clone, Copy, PartialEq, Eq, Debug)]
+#[derive(Clone, Copy, Eq, Debug)]
 pub struct Refusal {
     pub cause: Cause,
     pub place: usize,
@@ -81,12 +82,29 @@ impl Cause {
 
 // Two causes are the same exactly where their numbers are.
 impl PartialEq for Cause {
-    ghost equals = { λ a b r. Decides r (a ≡ b) };
+    ghost eq = { on number_of nat_eq };
 
     ghost laws = { Keys.partial_equiv_from_equiv (Prim.search (comparing, rules)) };
 
-    fn eq(&self, other: &Cause) -> bool {
+    fn eq(&self, other: &Cause) -> bool
+        ensures by_number { result ≡ on number_of nat_eq self.now other.now }
+        ensures exact { Decides result (self.now ≡ other.now) }
+    {
         self.number() == other.number()
+    }
+}
+
+// Two refusals are the same exactly where their causes and places are.
+impl PartialEq for Refusal {
+    ghost eq = { eq_of_both (on (λ r. r.cause) (on number_of nat_eq)) (on (λ r. r.place) nat_eq) };
+
+    ghost laws = { Keys.partial_equiv_from_equiv (Prim.search (comparing, rules)) };
+
+    fn eq(&self, other: &Refusal) -> bool
+        ensures by_parts { result ≡ eq_of_both (on (λ r. r.cause) (on number_of nat_eq)) (on (λ r. r.place) nat_eq) self.now other.now }
+        ensures exact { Decides result (self.now ≡ other.now) }
+    {
+        self.cause == other.cause && self.place == other.place
     }
 }
 

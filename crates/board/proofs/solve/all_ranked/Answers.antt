@@ -2,11 +2,11 @@ use Rattle.std.proofs.Common.{sym}
 use Rattle.board.proofs.Rounds.{all_stop, all_more, all_end}
 use Rattle.board.proofs.solve.all_ranked.Goals as goal
 
-pub returns-then-not-is-ranked : goal.returns-then-not-is-ranked
-returns-then-not-is-ranked c = sym (all_stop _ _ _ c.loop-position.invariant c.loop-position-test.true (sym c.if-not-is-ranked.ensures))
+pub returns-then-not-is_ranked : goal.returns-then-not-is_ranked
+returns-then-not-is_ranked c = sym (all_stop _ _ _ c.loop-position.invariant c.loop-position-test.true (sym c.if-not-is_ranked.ensures))
 
 pub loop-position-preserved : goal.loop-position-preserved
-loop-position-preserved c = all_more _ _ _ c.loop-position.invariant c.loop-position-test.true (sym c.if-not-is-ranked.ensures)
+loop-position-preserved c = all_more _ _ _ c.loop-position.invariant c.loop-position-test.true (sym c.if-not-is_ranked.ensures)
 
 pub returns : goal.returns
 returns c = sym (all_end _ _ _ c.loop-position.invariant c.loop-position-test.false)

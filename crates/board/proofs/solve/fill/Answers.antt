@@ -1,18 +1,18 @@
-use Rattle.std.proofs.Common.{◌≡◌, ◌+◌, ◌-◌, ◌<◌, ◌≤◌, [], ◌∷◌, ◌++◌, is_some, vec_items, sym, refl, ap, ◌∙◌, subst, arith}
+use Rattle.std.proofs.Common.{◌≡◌, ◌+◌, ◌<◌, ◌≤◌, [], ◌∷◌, ◌++◌, is_some, vec_items, sym, ap, ◌∙◌, subst, arith}
 use Rattle.wire.specs.Refusals.{no_memory}
-use Rattle.board.specs.Table.{rows_from, row, solution}
+use Rattle.board.specs.Table.{row}
 use Rattle.board.proofs.Rows.{filled_none, filled_push, filled_keep, filled_all, refused_cases, Filled}
 use Rattle.board.proofs.solve.fill.Goals as goal
-use Rattle.board.proofs.solve.fill.Goals.{in-Some+in-ok-push, in-default}
+use Rattle.board.proofs.solve.fill.Goals.{in-Some+in_ok-push, in_default}
 
 pub loop-position-init : goal.loop-position-init
 loop-position-init g c = filled_none (g.B.Board.arena c.args.board.now) c.args.ranks.now c.requires.settled (vec_items c.args.rows.now) c.requires.empty
 
-pub row-at-requires : goal.row-at-requires
-row-at-requires g c = record { inside = omega arith; settled = c.requires.settled; ranked = c.in-Some.is }
+pub row_at-requires : goal.row_at-requires
+row_at-requires g c = record { inside = omega arith; settled = c.requires.settled; ranked = c.in-Some.is }
 
-pub returns-in-err-push : goal.returns-in-err-push
-returns-in-err-push g c = refused_cases c.from-residual.result _ (λ e. e ≡ no_memory) c.from-residual.ensures.1
+pub returns-in_err-push : goal.returns-in_err-push
+returns-in_err-push g c = refused_cases c.from_residual.result _ (λ e. e ≡ no_memory) c.from_residual.ensures.1
 
 pub loop-position-preserved : goal.loop-position-preserved
 loop-position-preserved g c =
@@ -20,12 +20,12 @@ loop-position-preserved g c =
     let p = c.loop-position.position in
     let l : p < b.positions = omega arith in
     elim c.match-ranks-position.branch [
-      | in-Some+in-ok-push w ↦
-          let items : vec_items c.match-ranks-position.rows ≡ vec_items c.loop-position.rows ++ (row b p ∷ []) = ap vec_items w.rows-is ∙ w.in-ok-push.ensures.items ∙ ap (λ r. vec_items c.loop-position.rows ++ (r ∷ [])) w.row-at.ensures in
+      | in-Some+in_ok-push w ↦
+          let items : vec_items c.match-ranks-position.rows ≡ vec_items c.loop-position.rows ++ (row b p ∷ []) = ap vec_items w.rows-is ∙ w.in_ok-push.ensures.items ∙ ap (λ r. vec_items c.loop-position.rows ++ (r ∷ [])) w.row_at.ensures in
           subst (Filled b c.args.ranks.now c.requires.settled (p + 1)) (sym items) (filled_push b c.args.ranks.now c.requires.settled p w.in-Some.rank (vec_items c.loop-position.rows) l w.in-Some.is c.loop-position.invariant)
-      | in-default w ↦
+      | in_default w ↦
           let items : vec_items c.match-ranks-position.rows ≡ vec_items c.loop-position.rows = ap vec_items w.rows-is in
-          subst (Filled b c.args.ranks.now c.requires.settled (p + 1)) (sym items) (filled_keep b c.args.ranks.now c.requires.settled p (vec_items c.loop-position.rows) l (ap is_some w.in-default.is) c.loop-position.invariant)
+          subst (Filled b c.args.ranks.now c.requires.settled (p + 1)) (sym items) (filled_keep b c.args.ranks.now c.requires.settled p (vec_items c.loop-position.rows) l (ap is_some w.in_default.is) c.loop-position.invariant)
     ]
 
 pub returns : goal.returns

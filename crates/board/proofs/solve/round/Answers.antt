@@ -1,6 +1,6 @@
-use Rattle.std.proofs.Common.{◌≡◌, ◌<◌, ◌≤◌, true, false, length, sym, refl, ◌∙◌, arith}
+use Rattle.std.proofs.Common.{◌≡◌, ◌≤◌, false, sym, refl, ◌∙◌, arith}
 use Rattle.std.proofs.lemmas.Bool.{true≢false}
-use Rattle.board.proofs.Rounds.{Halfway, halfway_more, halfway_all}
+use Rattle.board.proofs.Rounds.{halfway_more, halfway_all}
 use Rattle.board.proofs.solve.round.Goals as goal
 use Rattle.board.proofs.solve.round.Goals.{then-raise, else-raise}
 

@@ -2,11 +2,11 @@ use Rattle.std.proofs.Common.{◌≡◌, ◌≤◌, arith, rules}
 use Rattle.board.proofs.Settling.{found_next, found_all, found_still}
 use Rattle.board.proofs.solve.settle.Goals as goal
 
-pub overflow-cast-steps : goal.overflow-cast-steps
-overflow-cast-steps g c = let few = (g.B.Board.lawful c.args.board.now).few_positions in search rules
+pub overflow_cast-steps : goal.overflow_cast-steps
+overflow_cast-steps g c = let few = (g.B.Board.lawful c.args.board.now).few_positions in search rules
 
-pub overflow-add-steps : goal.overflow-add-steps
-overflow-add-steps g c = let few = (g.B.Board.lawful c.args.board.now).few_positions in search rules
+pub overflow_add-steps : goal.overflow_add-steps
+overflow_add-steps g c = let few = (g.B.Board.lawful c.args.board.now).few_positions in search rules
 
 pub loop-steps-preserved : goal.loop-steps-preserved
 loop-steps-preserved g c = found_next (g.B.Board.arena c.args.board.now) c.loop-steps.steps c.loop-steps.ranks c.round.new.ranks c.loop-steps.invariant c.round.ensures.each

@@ -1,4 +1,4 @@
 use Rattle.ltlf.proofs.reader.+read_formula.Given as goal
 
-abbrev pub decreases-read-formula : goal.decreases-read-formula
-decreases-read-formula l = l.levels
+abbrev pub decreases-read_formula : goal.decreases-read_formula
+decreases-read_formula l = l.levels

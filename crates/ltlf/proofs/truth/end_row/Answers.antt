@@ -9,7 +9,7 @@ loop-n-init c = begins end_rule c.args.nodes.now _ c.counted-n.ensures
 
 pub loop-n-preserved : goal.loop-n-preserved
 loop-n-preserved c =
-    turn end_rule c.args.nodes.now c.loop-n.n c.loop-n.here _ _ c.loop-n-test.true (omega arith) c.loop-n.invariant c.truth-at-end.ensures
+    turn end_rule c.args.nodes.now c.loop-n.n c.loop-n.here _ _ c.loop-n-test.true (omega arith) c.loop-n.invariant c.truth_at_end.ensures
 
 pub returns : goal.returns
 returns c =

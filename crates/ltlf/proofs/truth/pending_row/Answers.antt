@@ -10,7 +10,7 @@ loop-n-init c = begins (pending_rule c.args.row.now c.args.ended) c.args.nodes.n
 
 pub loop-n-preserved : goal.loop-n-preserved
 loop-n-preserved c =
-    turn (pending_rule c.args.row.now c.args.ended) c.args.nodes.now c.loop-n.n c.loop-n.pending _ _ c.loop-n-test.true (omega arith) c.loop-n.invariant c.pending-on.ensures
+    turn (pending_rule c.args.row.now c.args.ended) c.args.nodes.now c.loop-n.n c.loop-n.pending _ _ c.loop-n-test.true (omega arith) c.loop-n.invariant c.pending_on.ensures
 
 pub returns : goal.returns
 returns c =

@@ -10,7 +10,7 @@ loop-n-init c = begins (before_rule c.args.action c.args.pending.now) c.args.nod
 
 pub loop-n-preserved : goal.loop-n-preserved
 loop-n-preserved c =
-    turn (before_rule c.args.action c.args.pending.now) c.args.nodes.now c.loop-n.n c.loop-n.here _ _ c.loop-n-test.true (omega arith) c.loop-n.invariant c.truth-before.ensures
+    turn (before_rule c.args.action c.args.pending.now) c.args.nodes.now c.loop-n.n c.loop-n.here _ _ c.loop-n-test.true (omega arith) c.loop-n.invariant c.truth_before.ensures
 
 pub returns : goal.returns
 returns c =

@@ -16,7 +16,7 @@ loop-i-init c =
     let nodes = c.nodes-nodes.result.now in
     let trace = c.args.trace.now in
     let none : drop (length trace) trace ≡ [] = drop_all (length trace) trace (omega arith) in
-    let row = c.end-row-row.ensures.means ∙ sym (ap (truths nodes) none) in
+    let row = c.end_row-row.ensures.means ∙ sym (ap (truths nodes) none) in
     (ap length row ∙ length_truths nodes _, row)
 
 pub loop-i-preserved : goal.loop-i-preserved
@@ -26,8 +26,8 @@ loop-i-preserved c =
     let i = c.loop-i.i in
     let back : i - 1 + 1 ≡ i = omega arith in
     let ended : eqb (i - 1 + 1) (length trace) ≡ empty (drop i trace) = ap (λ k. eqb k (length trace)) back ∙ empty_drop trace i (omega arith) in
-    let pending = c.pending-row-pending.ensures.means (drop i trace) c.loop-i.invariant.1 ended in
-    let row = c.row-before-row.ensures.means (drop i trace) pending ∙ sym (ap (truths nodes) (drop_before trace i (omega arith) (omega arith))) in
+    let pending = c.pending_row-pending.ensures.means (drop i trace) c.loop-i.invariant.1 ended in
+    let row = c.row_before-row.ensures.means (drop i trace) pending ∙ sym (ap (truths nodes) (drop_before trace i (omega arith) (omega arith))) in
     (ap length row ∙ length_truths nodes _, row)
 
 pub returns : goal.returns

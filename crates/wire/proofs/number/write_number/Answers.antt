@@ -7,7 +7,7 @@ pub returns : goal.returns
 returns c =
     let small : c.args.n ≤ 65535 = omega (arith, c.ranges.n.fits) in
     record {
-      writes = c.put-groups.ensures;
-      reads-back = written c.args.out.now c.put-groups.new.out c.args.at c.args.n small c.put-groups.result c.put-groups.ensures;
+      writes = c.put_groups.ensures;
+      reads_back = written c.args.out.now c.put_groups.new.out c.args.at c.args.n small c.put_groups.result c.put_groups.ensures;
       shortest = shortest;
     }

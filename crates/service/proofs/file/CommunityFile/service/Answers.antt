@@ -1,4 +1,4 @@
-use Rattle.std.proofs.Common.{◌≡◌, ℕ, ◌<◌, ltb, List, get_or, Some, None, Option, sym, ◌∙◌, arith, Bor, MatchOption}
+use Rattle.std.proofs.Common.{◌≡◌, ℕ, ◌<◌, ltb, Some, None, Option, sym, ◌∙◌, arith, Bor, MatchOption}
 use Rattle.std.specs.Slice.{IsGetResult}
 use Rattle.std.proofs.lemmas.List.{get_or_past, get_or_read}
 use Rattle.std.proofs.lemmas.Bool.{cond-true, lt-ltb}
@@ -13,4 +13,4 @@ picked c i None l h = cond-true (ltb i c.count) _ no_service (lt-ltb i c.count l
 picked c i (Some x) l h = get_or_read c.services i x.now h.3.0 h.1 no_service ∙ sym (cond-true (ltb i c.count) _ no_service (lt-ltb i c.count l))
 
 pub returns : goal.returns
-returns c = picked (contents c.args.self.now) c.args.service c.get.result (omega arith) c.get.ensures.finds
+returns c = picked (contents c.args.self.now) c.args.service c.get.result (omega arith) c.get.ensures.lookup

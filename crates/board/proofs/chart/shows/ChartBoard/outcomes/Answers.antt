@@ -1,4 +1,4 @@
-use Rattle.std.proofs.Common.{◌≡◌, ◌≤◌, length, vec_items, sym, ap, arith}
+use Rattle.std.proofs.Common.{◌≤◌, length, vec_items, sym, ap, arith}
 use Rattle.std.proofs.lemmas.List.{get_or_past}
 use Rattle.board.specs.declared.place.Place.{Place}
 use Rattle.board.specs.Place.{past_place, outcomes_in}
