@@ -23,7 +23,7 @@ struct Placed {
 
 // The number of rows, not above the number of positions, and where it ends.
 fn read_count<B: Board>(board: &B, bytes: &[u8]) -> Result<(u16, usize), Refusal>
-    ensures { result ≡ count_at (arena board.now) bytes.now }
+    ensures { result ≡ count_at (B.arena board.now) bytes.now }
 {
     let (count, next) = number_at(bytes, 0)?;
     if count as usize > board.positions() {
@@ -39,7 +39,7 @@ fn read_position<B: Board>(
     floor: usize,
     at: usize,
 ) -> Result<(u16, usize), Refusal>
-    ensures { result ≡ position_at (arena board.now) bytes.now floor at }
+    ensures { result ≡ position_at (B.arena board.now) bytes.now floor at }
 {
     let (position, next) = number_at(bytes, at)?;
     if position as usize >= board.positions() {
@@ -58,7 +58,7 @@ fn read_rank<B: Board>(
     position: usize,
     at: usize,
 ) -> Result<(u16, usize), Refusal>
-    ensures { result ≡ rank_at (arena board.now) bytes.now position at }
+    ensures { result ≡ rank_at (B.arena board.now) bytes.now position at }
 {
     let (rank, next) = number_at(bytes, at)?;
     if board.is_done(position) {
@@ -78,7 +78,7 @@ fn read_choice<B: Board>(
     position: usize,
     at: usize,
 ) -> Result<(u8, usize), Refusal>
-    ensures { result ≡ choice_at (arena board.now) bytes.now position at }
+    ensures { result ≡ choice_at (B.arena board.now) bytes.now position at }
 {
     let (choice, next) = number_at(bytes, at)?;
     if board.outcomes(position, choice as usize).is_empty() {
@@ -94,7 +94,7 @@ fn read_row<B: Board>(
     floor: usize,
     at: usize,
 ) -> Result<(Row, usize), Refusal>
-    ensures { result ≡ row_at (arena board.now) bytes.now floor at }
+    ensures { result ≡ row_at (B.arena board.now) bytes.now floor at }
 {
     let (position, second) = read_position(board, bytes, floor, at)?;
     let (rank, third) = read_rank(board, bytes, position as usize, second)?;
@@ -126,7 +126,7 @@ fn read_rows<B: Board>(
 ) -> Result<usize, Refusal>
     requires empty { rows.old.items ≡ [] }
     requires blank { ranks.old ≡ replicate 1024 None }
-    ensures { MatchResult result (λ e. (rows_at (arena board.now) bytes.now count 0 at ≡ Ok (e, rows.new.items)) × Marked ranks.new (rows_of rows.new.items)) (λ e. (rows_at (arena board.now) bytes.now count 0 at ≡ Err e) ⊎ (e ≡ no_memory)) }
+    ensures { MatchResult result (λ e. (rows_at (B.arena board.now) bytes.now count 0 at ≡ Ok (e, rows.new.items)) × Marked ranks.new (rows_of rows.new.items)) (λ e. (rows_at (B.arena board.now) bytes.now count 0 at ≡ Err e) ⊎ (e ≡ no_memory)) }
 {
     let mut at = at;
     let mut floor = 0;
@@ -166,7 +166,7 @@ fn all_lower(ranks: &[Option<u16>], limit: u16, positions: &[u16]) -> bool
 
 // Whether every outcome of the row's choice has a lower rank.
 fn leads_down<B: Board>(board: &B, ranks: &[Option<u16>], row: Row) -> bool
-    ensures { result ≡ leads (arena board.now) (held ranks.now) row }
+    ensures { result ≡ leads (B.arena board.now) (held ranks.now) row }
 {
     if row.rank == 0 {
         return true;
@@ -182,7 +182,7 @@ fn falling_rows<B: Board>(
     ranks: &[Option<u16>],
     rows: &[Placed],
 ) -> Result<Vec<Row>, Refusal>
-    ensures { MatchResult result (λ v. fallen (leads (arena board.now) (held ranks.now)) rows.now ≡ Ok v.items) (λ e. (fallen (leads (arena board.now) (held ranks.now)) rows.now ≡ Err e) ⊎ (e ≡ no_memory)) }
+    ensures { MatchResult result (λ v. fallen (leads (B.arena board.now) (held ranks.now)) rows.now ≡ Ok v.items) (λ e. (fallen (leads (B.arena board.now) (held ranks.now)) rows.now ≡ Err e) ⊎ (e ≡ no_memory)) }
 {
     let mut checked = Vec::new(heap);
     for each in rows {
@@ -200,7 +200,7 @@ pub(crate) fn audited_rows<B: Board>(
     bytes: &[u8],
     board: &B,
 ) -> Result<Vec<Row>, Refusal>
-    ensures { MatchResult result (λ v. audit_of (arena board.now) bytes.now ≡ Ok v.items) (λ e. (audit_of (arena board.now) bytes.now ≡ Err e) ⊎ (e ≡ no_memory)) }
+    ensures { MatchResult result (λ v. audit_of (B.arena board.now) bytes.now ≡ Ok v.items) (λ e. (audit_of (B.arena board.now) bytes.now ≡ Err e) ⊎ (e ≡ no_memory)) }
 {
     let (count, at) = read_count(board, bytes)?;
     let mut rows = Vec::new(heap);

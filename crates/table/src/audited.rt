@@ -46,8 +46,8 @@ pub fn find_row(rows: &[Row], position: u16) -> Option<Row>
 
 // The table that the bytes hold, if it is accepted on the board; else the first fault.
 pub fn audit<B: Board>(heap: Global, bytes: &[u8], board: &B) -> Result<AuditedTable, Refusal>
-    ensures audits { MatchResult result (λ t. audit_of (arena board.now) bytes.now ≡ Ok t.rows.items) (λ e. (audit_of (arena board.now) bytes.now ≡ Err e) ⊎ (e ≡ no_memory)) }
-    ensures law { AuditLaw (arena board.now) bytes.now }
+    ensures audits { MatchResult result (λ t. audit_of (B.arena board.now) bytes.now ≡ Ok t.rows.items) (λ e. (audit_of (B.arena board.now) bytes.now ≡ Err e) ⊎ (e ≡ no_memory)) }
+    ensures law { AuditLaw (B.arena board.now) bytes.now }
 {
     match audited_rows(heap, bytes, board) {
         Ok(rows) => Ok(AuditedTable { rows }),
