@@ -30,7 +30,7 @@ const MOST: u16 = 1023;
 
 // How a run stands that has reached the position.
 fn settle<B: Board>(board: &B, position: u16) -> State
-    ensures { result ≡ settled ((arena board.now).done position) }
+    ensures { result ≡ settled ((B.arena board.now).done position) }
 {
     if board.is_done(position as usize) {
         State::Done
@@ -53,7 +53,7 @@ fn holds(outcomes: &[u16], position: u16) -> bool
 
 // The choice of the position's row; refuses where there is no row, or one that cannot be played.
 fn usable<B: Board>(table: &AuditedTable, board: &B, position: u16) -> Result<u8, Refusal>
-    ensures { result ≡ by_row (arena board.now) position (find table.now.rows.items position) }
+    ensures { result ≡ by_row (B.arena board.now) position (find table.now.rows.items position) }
 {
     let Some(row) = table.row(position) else {
         return Err(Cause::NoUsableRow.at(0));
@@ -70,7 +70,7 @@ fn usable<B: Board>(table: &AuditedTable, board: &B, position: u16) -> Result<u8
 
 impl Record {
     pub(crate) fn born<B: Board>(board: &B, number: u16) -> Record
-        ensures { result ≡ birth (arena board.now) number }
+        ensures { result ≡ birth (B.arena board.now) number }
     {
         Record {
             number,
@@ -86,7 +86,7 @@ impl Record {
         table: &AuditedTable,
         board: &B,
     ) -> Result<u8, Refusal>
-        ensures { (result, self.new) ≡ delegated (arena board.now) table.now.rows.items self.old }
+        ensures { (result, self.new) ≡ delegated (B.arena board.now) table.now.rows.items self.old }
     {
         match self.state {
             State::Idle => {
@@ -106,7 +106,7 @@ impl Record {
         slip: u16,
         position: u16,
     ) -> Result<(), Refusal>
-        ensures { (result, self.new) ≡ kept self.old (reporting (arena board.now) self.old slip position self.old.state) }
+        ensures { (result, self.new) ≡ kept self.old (reporting (B.arena board.now) self.old slip position self.old.state) }
     {
         let State::Waiting(choice) = self.state else {
             return Err(Cause::SlipMismatch.at(0));
@@ -170,7 +170,7 @@ impl Record {
 
     // Delegates unless waiting.
     fn ready<B: Board>(&mut self, table: &AuditedTable, board: &B) -> Result<(), Refusal>
-        ensures { (result, self.new) ≡ kept self.old (readied (arena board.now) table.now.rows.items self.old) }
+        ensures { (result, self.new) ≡ kept self.old (readied (B.arena board.now) table.now.rows.items self.old) }
     {
         if self.is_waiting() {
             return Ok(());
@@ -188,8 +188,8 @@ impl Record {
         position: u16,
     ) -> Result<(), Refusal>
         ensures { MatchResult result
-            (λ _. supposing (arena board.now) table.now.rows.items self.old position ≡ Ok self.new)
-            (λ e. supposing (arena board.now) table.now.rows.items self.old position ≡ Err e) }
+            (λ _. supposing (B.arena board.now) table.now.rows.items self.old position ≡ Ok self.new)
+            (λ e. supposing (B.arena board.now) table.now.rows.items self.old position ≡ Err e) }
     {
         self.ready(table, board)?;
         let number = self.number;

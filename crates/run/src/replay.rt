@@ -44,7 +44,7 @@ fn suppose(reply: Result<(Look, usize), (Refusal, usize)>) -> Answer
 
 // One event. No slip is made for it: its number is enough for the record.
 fn play<B: Board>(run: &mut Run, table: &AuditedTable, board: &B, event: Event) -> Answer
-    ensures { (result, run.new.rec) ≡ step (arena board.now) table.now.rows.items run.old.rec event.entry }
+    ensures { (result, run.new.rec) ≡ step (B.arena board.now) table.now.rows.items run.old.rec event.entry }
 {
     let number = run.rec.number;
     match event {
@@ -65,7 +65,7 @@ pub fn replay<B: Board>(
     number: u16,
     events: &[Event],
 ) -> Result<Replay, Refusal>
-    ensures { MatchResult result (Replayed (arena board.now) table.now.rows.items number events.now) (λ e. e ≡ no_memory) }
+    ensures { MatchResult result (Replayed (B.arena board.now) table.now.rows.items number events.now) (λ e. e ≡ no_memory) }
 {
     let mut run = Run::start(table, board, number);
     let mut answers = Vec::new(heap);

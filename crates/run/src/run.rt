@@ -35,7 +35,7 @@ impl Drop for Restore<'_> {
 impl Run {
     // A run at the start of the board. Only an audited table is run.
     pub fn start<B: Board>(_table: &AuditedTable, board: &B, number: u16) -> Run
-        ensures { result.rec ≡ birth (arena board.now) number }
+        ensures { result.rec ≡ birth (B.arena board.now) number }
     {
         Run {
             rec: Record::born(board, number),
@@ -48,7 +48,7 @@ impl Run {
         table: &AuditedTable,
         board: &B,
     ) -> Result<(u8, Slip), Refusal>
-        ensures { (handed result, self.new.rec) ≡ step (arena board.now) table.now.rows.items self.old.rec Event.Delegate }
+        ensures { (handed result, self.new.rec) ≡ step (B.arena board.now) table.now.rows.items self.old.rec Event.Delegate }
     {
         let number = self.rec.number;
         let choice = self.rec.delegate(table, board)?;
@@ -62,7 +62,7 @@ impl Run {
         board: &B,
         position: u16,
     ) -> Result<(), (Refusal, Slip)>
-        ensures { (rows : List Row) → (result, self.new.rec) ≡ spent slip (step (arena board.now) rows self.old.rec (Event.Report slip.run position)) }
+        ensures { (rows : List Row) → (result, self.new.rec) ≡ spent slip (step (B.arena board.now) rows self.old.rec (Event.Report slip.run position)) }
     {
         match self.rec.report(board, slip.number(), position) {
             Ok(()) => {
@@ -107,7 +107,7 @@ impl Run {
         board: &B,
         supposed: &[u16],
     ) -> Result<(Look, usize), (Refusal, usize)>
-        ensures { (rehearsed result, self.new.rec) ≡ step (arena board.now) table.now.rows.items self.old.rec (Event.Rehearse supposed.entry) }
+        ensures { (rehearsed result, self.new.rec) ≡ step (B.arena board.now) table.now.rows.items self.old.rec (Event.Rehearse supposed.entry) }
     {
         let saved = self.rec;
         let guard = Restore {

@@ -11,13 +11,13 @@ use Rattle.run.proofs.replay.replay.Goals as goal
 pub loop-event-init : goal.loop-event-init
 loop-event-init g c = let b = g.B.Board.arena c.args.board.now in going_none b (vec_items c.args.table.now.rows) (birth b c.args.number) c.args.events.now _ _ c.start-run.ensures c.new-answers.ensures.items
 
-pub returns-in-err-push : goal.returns-in-err-push
-returns-in-err-push g c = refused_cases c.from-residual.result _ (λ e. e ≡ no_memory) c.from-residual.ensures.1
+pub returns-in_err-push : goal.returns-in_err-push
+returns-in_err-push g c = refused_cases c.from_residual.result _ (λ e. e ≡ no_memory) c.from_residual.ensures.1
 
 pub loop-event-preserved : goal.loop-event-preserved
 loop-event-preserved g c =
     let b = g.B.Board.arena c.args.board.now in
-    going_more b (vec_items c.args.table.now.rows) (birth b c.args.number) c.args.events.now _ _ _ _ _ _ _ c.loop-event.invariant c.loop-event-test.true c.play.ensures c.in-ok-push.ensures.items
+    going_more b (vec_items c.args.table.now.rows) (birth b c.args.number) c.args.events.now _ _ _ _ _ _ _ c.loop-event.invariant c.loop-event-test.true c.play.ensures c.in_ok-push.ensures.items
 
 pub returns : goal.returns
 returns g c =

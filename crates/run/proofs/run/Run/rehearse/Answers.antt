@@ -12,7 +12,7 @@ returns-in-Err g c =
     λ i. (said i, c.drop-guard.ensures i)
 
 pub loop-position-preserved : goal.loop-position-preserved
-loop-position-preserved g c = (omega arith, refl, onward (g.B.Board.arena c.args.board.now) (vec_items c.args.table.now.rows) _ _ _ _ _ c.loop-position.invariant.2 c.loop-position-test.true _ c.in-default.ensures)
+loop-position-preserved g c = (omega arith, refl, onward (g.B.Board.arena c.args.board.now) (vec_items c.args.table.now.rows) _ _ _ _ _ c.loop-position.invariant.2 c.loop-position-test.true _ c.in_default.ensures)
 
 pub returns : goal.returns
 returns g c =
