@@ -1,12 +1,12 @@
 -- From stories of choices and states to composed boards.
-use Rattle.std.proofs.Common.{◌≡◌, ℕ, zero, suc, ◌+◌, ◌*◌, ◌%◌, ◌<◌, ◌≤◌, Bool, true, false, ◌&&◌, ◌⊎◌, List, [], ◌∷◌, ◌++◌, map, get_or, set, Decides, sym, refl, ap, ◌∙◌, subst, ap₂, inl, inr, ⊎_elim, mod-lt, arith}
-use Rattle.std.proofs.lemmas.Bool.{cases_Bool, cases_lt}
+use Rattle.std.proofs.Common.{◌≡◌, ℕ, zero, suc, ◌*◌, ◌<◌, Bool, false, ◌&&◌, List, [], ◌∷◌, ◌++◌, map, set, Decides, sym, refl, ap, ◌∙◌, subst, ap₂, ⊎_elim, mod-lt, arith}
+use Rattle.std.proofs.lemmas.Bool.{cases_lt}
 use Rattle.automaton.specs.Classes.{Trace, leads}
 use Rattle.board.specs.Lists.{Member, here, there}
-use Rattle.board.specs.Game.{Game, Forces}
-use Rattle.board.specs.Arena.{Arena, Lawful}
-use Rattle.board.specs.Ranks.{moves, won, ranked, rank}
-use Rattle.board.specs.Table.{Accepted, rank_in, choice_in}
+use Rattle.board.specs.Game.{Forces}
+use Rattle.board.specs.Arena.{Arena}
+use Rattle.board.specs.Ranks.{moves, won}
+use Rattle.board.specs.Table.{rank_in, choice_in}
 use Rattle.board.proofs.Basics.{member_unmap}
 use Rattle.board.proofs.Games.{Image, member_map, image_won, rank_le, pull_back, won_is_forced_here}
 use Rattle.board.proofs.Ranks.{rounds_end}

@@ -1,9 +1,9 @@
 -- The law of composition.
-use Rattle.std.specs.Prelude.{◌≡◌, ℕ, ◌*◌, ◌<◌, ◌≤◌, Bool, true, false, ◌↔◌, List, [], Decides}
+use Rattle.std.specs.Prelude.{◌≡◌, ℕ, ◌<◌, ◌≤◌, Bool, true, ◌↔◌, List, Decides}
 use Rattle.service.specs.Tables.{has_state}
 use Rattle.board.specs.Lists.{Member}
 use Rattle.board.specs.ChartFile.{Rising}
-use Rattle.board.specs.Arena.{Arena, Lawful}
+use Rattle.board.specs.Arena.{Arena}
 use Rattle.board.specs.Game as game
 use Rattle.board.specs.Ranks.{won, ranked, rank}
 use Rattle.board.specs.declared.table.Row.{Row}

@@ -37,8 +37,8 @@ fn prints_once(rt: HostRuntime) {
     );
     assert_eq!(rt; (board.positions(), board.choices()), (3, 2));
     assert!(rt; !board.is_done(0) && board.is_done(1) && !board.is_done(2));
-    assert_eq!(rt; board.outcomes(0, 0), &[1, 2]);
-    assert_eq!(rt; board.outcomes(2, 1), &[1]);
+    assert_eq!(rt; board.outcomes(0, 0), [1, 2].as_slice());
+    assert_eq!(rt; board.outcomes(2, 1), [1].as_slice());
     assert!(rt; board.outcomes(0, 1).is_empty() && board.outcomes(1, 0).is_empty());
     let rows = table.rows();
     assert_eq!(rt; rows.len(), 3);

@@ -27,7 +27,7 @@ const BUFFER: usize = 64;
 
 // The table to run: what audit accepted of just these bytes on just this board.
 fn accepted<B: Board>(heap: Global, bytes: &[u8], board: &B) -> Result<AuditedTable, Refusal>
-    ensures { IfOk result (λ t. audit_of (arena board.now) bytes.now ≡ Ok t.rows.items) }
+    ensures { IfOk result (λ t. audit_of (B.arena board.now) bytes.now ≡ Ok t.rows.items) }
 {
     audit(heap, bytes, board)
 }
