@@ -1,16 +1,17 @@
 // The slip that a delegated choice is reported by.
-ghost use Rattle.std.specs.Prelude.{◌≡◌};
+ghost use Rattle.std.specs.Prelude.{◌≡◌, true};
 
-// Names the run that gave it. It is spent by a report or by waiving, and by nothing else.
+// Names the run that gave it. It is used up by a report or by waiving, and by nothing else.
 pub struct Slip {
     run: u16,
+    used: bool,
 }
 
 impl Slip {
     pub(crate) fn of(run: u16) -> Slip
         ensures { result.run ≡ run }
     {
-        Slip { run }
+        Slip { run, used: false }
     }
 
     pub(crate) fn number(&self) -> u16
@@ -19,16 +20,16 @@ impl Slip {
         self.run
     }
 
-    pub(crate) fn spend(self) {
-        let Slip { run: _ } = self;
+    pub(crate) fn spend(mut self) {
+        self.used = true;
     }
 }
 
-// No slip may be let go: nothing meets what this asks.
+// No slip may be let go before it is used up. Only `spend` marks one so, and lets it go itself: nobody else has a slip that may go.
 impl Drop for Slip {
     fn drop(self)
-        requires { ⊥ }
+        requires { self.used ≡ true }
     {
-        let Slip { run: _ } = self;
+        let Slip { run: _, used: _ } = self;
     }
 }
