@@ -34,6 +34,33 @@ OTHERWISE = {
     "step-place": "step_place_lem",
 }
 
+# declared beside another name or within a block, where the patterns above do not look
+MORE = {
+    "weak-next": "weak_next",
+    "class-flag": "class_flag",
+    "class-flags": "class_flags",
+    "flagOf": "flag_of",
+    "setOf": "set_of",
+    "rowsFor": "rows_for",
+    "true-on": "true_on",
+    "prepend-all": "prepend_all",
+    "by-set": "by_set",
+    "by-table": "by_table",
+    "q-in": "q_in",
+    "found-determined": "found_determined",
+    "Choices-read": "ChoicesRead",
+    "Entry-read": "EntryRead",
+    "Lists-occurring": "ListsOccurring",
+    "Outcomes-read": "OutcomesRead",
+    "Place-read": "PlaceRead",
+    "Places-read": "PlacesRead",
+    "Read-on": "ReadOn",
+    "Reads-slot": "ReadsSlot",
+    "Sheet-read": "SheetRead",
+    "Sign-next": "SignNext",
+    "Takes-slot": "TakesSlot",
+}
+
 
 def sources(root):
     for part in ("specs", "proofs"):
@@ -76,7 +103,8 @@ def off(name):
 
 
 def mapping(root):
-    return {n: respelled(n, fact) for n, fact in declared(root).items() if off(n) and respelled(n, fact) != n}
+    found = {n: respelled(n, fact) for n, fact in declared(root).items() if off(n) and respelled(n, fact) != n}
+    return found | MORE
 
 
 def turned(text, names, comment):

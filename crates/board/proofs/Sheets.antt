@@ -69,14 +69,14 @@ module _ (bs : List ℕ) where
         let f = number_form bs at p.0 p.1 bytes r.0 in
         (r.1, r.2, f.3)
 
-    record Outcomes-read (n m i at low : ℕ) (xs : List ℕ) (s : ℕ × ℕ × List ℕ) : Type 0 where
+    record OutcomesRead (n m i at low : ℕ) (xs : List ℕ) (s : ℕ × ℕ × List ℕ) : Type 0 where
       list : List ℕ
       many : length list ≡ m
       written : s.2 ≡ put xs i list
       rising : Rising low n list
       stands : drop at bs ≡ numbers list ++ drop s.0 bs
 
-    outcomes_read : (n m i at low : ℕ) (xs : List ℕ) (s : ℕ × ℕ × List ℕ) → 1 ≤ n → steps (outcome_of bs n) m i (at, low, xs) ≡ Ok s → Outcomes-read n m i at low xs s
+    outcomes_read : (n m i at low : ℕ) (xs : List ℕ) (s : ℕ × ℕ × List ℕ) → 1 ≤ n → steps (outcome_of bs n) m i (at, low, xs) ≡ Ok s → OutcomesRead n m i at low xs s
     outcomes_read n zero i at low xs s h e =
         let q : ◌≡◌ {A = ℕ × ℕ × List ℕ} s (at, low, xs) = cc in
         record { list = []; many = refl; written = ap (λ (t : ℕ × ℕ × List ℕ). t.2) q; rising = tt; stands = ap (λ (t : ℕ × ℕ × List ℕ). drop t.0 bs) (sym q) }
@@ -95,13 +95,13 @@ module _ (bs : List ℕ) where
           stands = f.2 ∙ ap (λ t. groups p.0 ++ t) rest.stands ∙ sym (append_assoc (groups p.0) (numbers rest.list) (drop s.0 bs));
         }
 
-    record Entry-read (n : ℕ) (done : Bool) (at : ℕ) (s : Entry × ℕ) : Type 0 where
+    record EntryRead (n : ℕ) (done : Bool) (at : ℕ) (s : Entry × ℕ) : Type 0 where
       list : List ℕ
       written : s.0 ≡ entry list
       good : GoodChoice n done list
       stands : drop at bs ≡ choice_bytes list ++ drop s.1 bs
 
-    entry_read : (n : ℕ) (done : Bool) (at : ℕ) (s : Entry × ℕ) → 1 ≤ n → entry_of bs n done at ≡ Ok s → Entry-read n done at s
+    entry_read : (n : ℕ) (done : Bool) (at : ℕ) (s : Entry × ℕ) → 1 ≤ n → entry_of bs n done at ≡ Ok s → EntryRead n done at s
     unfolding outcomes_at
     entry_read n done at s h e =
         let a = passed (field bs at 0 (cond done 0 8)) _ s e in
@@ -125,14 +125,14 @@ module _ (bs : List ℕ) where
               ∙ ap₂ (λ (k t : ℕ). (groups k ++ numbers r.list) ++ drop t bs) (sym r.many) (ap (λ (t : Entry × ℕ). t.1) same);
         }
 
-    record Choices-read (n : ℕ) (done : Bool) (m i at : ℕ) (es : List Entry) (s : ℕ × List Entry) : Type 0 where
+    record ChoicesRead (n : ℕ) (done : Bool) (m i at : ℕ) (es : List Entry) (s : ℕ × List Entry) : Type 0 where
       list : List (List ℕ)
       many : length list ≡ m
       written : s.1 ≡ put es i (map entry list)
       good : Each (GoodChoice n done) list
       stands : drop at bs ≡ joined choice_bytes list ++ drop s.0 bs
 
-    choices_read : (n : ℕ) (done : Bool) (m i at : ℕ) (es : List Entry) (s : ℕ × List Entry) → 1 ≤ n → steps (choice_of bs n done) m i (at, es) ≡ Ok s → Choices-read n done m i at es s
+    choices_read : (n : ℕ) (done : Bool) (m i at : ℕ) (es : List Entry) (s : ℕ × List Entry) → 1 ≤ n → steps (choice_of bs n done) m i (at, es) ≡ Ok s → ChoicesRead n done m i at es s
     choices_read n done zero i at es s h e =
         let q : ◌≡◌ {A = ℕ × List Entry} s (at, es) = cc in
         record { list = []; many = refl; written = ap (λ (t : ℕ × List Entry). t.1) q; good = tt; stands = ap (λ (t : ℕ × List Entry). drop t.0 bs) (sym q) }
@@ -151,13 +151,13 @@ module _ (bs : List ℕ) where
           stands = f.stands ∙ ap (λ t. choice_bytes f.list ++ t) rest.stands ∙ sym (append_assoc (choice_bytes f.list) (joined choice_bytes rest.list) (drop s.0 bs));
         }
 
-    record Place-read (n k at : ℕ) (s : Place × ℕ) : Type 0 where
+    record PlaceRead (n k at : ℕ) (s : Place × ℕ) : Type 0 where
       view : View
       written : s.0 ≡ place view
       good : Good n k view
       stands : drop at bs ≡ view_bytes view ++ drop s.1 bs
 
-    place_read : (n k at : ℕ) (s : Place × ℕ) → 1 ≤ n → place_of bs n k at ≡ Ok s → Place-read n k at s
+    place_read : (n k at : ℕ) (s : Place × ℕ) → 1 ≤ n → place_of bs n k at ≡ Ok s → PlaceRead n k at s
     unfolding entries_at
     place_read n k at s h e =
         let a = passed (field bs at 0 1) _ s e in
@@ -182,14 +182,14 @@ module _ (bs : List ℕ) where
               ∙ ap₂ (λ (x t : ℕ). (groups x ++ joined choice_bytes r.list) ++ drop t bs) (sym (flag d.0 f.1)) (ap (λ (t : Place × ℕ). t.1) same);
         }
 
-    record Places-read (n k m at : ℕ) (xs : List Place) (s : ℕ × List Place) : Type 0 where
+    record PlacesRead (n k m at : ℕ) (xs : List Place) (s : ℕ × List Place) : Type 0 where
       list : List View
       many : length list ≡ m
       written : s.1 ≡ xs ++ map place list
       good : Each (Good n k) list
       stands : drop at bs ≡ joined view_bytes list ++ drop s.0 bs
 
-    places_read : (n k m i at : ℕ) (xs : List Place) (s : ℕ × List Place) → 1 ≤ n → steps (position_of bs n k) m i (at, xs) ≡ Ok s → Places-read n k m at xs s
+    places_read : (n k m i at : ℕ) (xs : List Place) (s : ℕ × List Place) → 1 ≤ n → steps (position_of bs n k) m i (at, xs) ≡ Ok s → PlacesRead n k m at xs s
     places_read n k zero i at xs s h e =
         let q : ◌≡◌ {A = ℕ × List Place} s (at, xs) = cc in
         record { list = []; many = refl; written = ap (λ (t : ℕ × List Place). t.1) q ∙ sym (append-nil xs); good = tt; stands = ap (λ (t : ℕ × List Place). drop t.0 bs) (sym q) }
@@ -208,7 +208,7 @@ module _ (bs : List ℕ) where
           stands = f.stands ∙ ap (λ t. view_bytes f.view ++ t) rest.stands ∙ sym (append_assoc (view_bytes f.view) (joined view_bytes rest.list) (drop s.0 bs));
         }
 
-    pub record Sheet-read (x : Sheet) : Type 0 where
+    pub record SheetRead (x : Sheet) : Type 0 where
       pub list : List View
       pub many : length list ≡ x.positions
       pub written : x.places ≡ map place list
@@ -219,7 +219,7 @@ module _ (bs : List ℕ) where
       pub a_choice : 1 ≤ x.choices
       pub few_choices : x.choices ≤ 8
 
-    pub sheet_read : (x : Sheet) → sheet_of bs ≡ Ok x → Sheet-read x
+    pub sheet_read : (x : Sheet) → sheet_of bs ≡ Ok x → SheetRead x
     unfolding positions_of
     sheet_read x e =
         let a = passed (field bs 0 1 256) _ x e in
@@ -234,7 +234,7 @@ module _ (bs : List ℕ) where
         let fk = field_read n.1 1 8 k b.1 in
         let r = places_read n.0 k.0 n.0 0 k.1 [] s fn.0 c.1 in
         let last : joined view_bytes r.list ++ drop s.0 bs ≡ joined view_bytes r.list = ap (λ t. joined view_bytes r.list ++ t) (drop_all s.0 bs end.0) ∙ append-nil (joined view_bytes r.list) in
-        subst Sheet-read end.1 (record {
+        subst SheetRead end.1 (record {
           list = r.list;
           many = r.many;
           written = r.written;

@@ -2,7 +2,7 @@
 use Rattle.std.proofs.Common.{◌≡◌, ℕ, suc, ◌+◌, ◌-◌, ltb, List, [], ◌++◌, get_or, drop, sym, refl, ap, ◌∙◌, ap₂, append_assoc, append-nil, add-zero, add-one, arith, get_or-drop, drop-drop}
 use Rattle.std.proofs.lemmas.Bool.{lt-ltb, cond-true}
 use Rattle.ltlf.specs.declared.node.Node.{Node}
-use Rattle.ltlf.specs.Formula.{Formula, letter, neg, next, weak-next, eventually, always, conj, disj, implies, until, release, size}
+use Rattle.ltlf.specs.Formula.{Formula, letter, neg, next, weak_next, eventually, always, conj, disj, implies, until, release, size}
 use Rattle.ltlf.specs.Nodes.{flat, falsum, behind, formulas, formula_of}
 
 -- an operand at a distance m behind node n
@@ -55,7 +55,7 @@ means : (f : Formula) → Means f
 means (letter a) = record { first = λ n xs. refl; later = λ n xs. ap (λ m. formulas m xs) (sym (add-one n)) }
 means (neg f) = record { first = λ n xs. ap neg (only f (means f) n xs); later = behind_only f (means f) }
 means (next f) = record { first = λ n xs. ap next (only f (means f) n xs); later = behind_only f (means f) }
-means (weak-next f) = record { first = λ n xs. ap weak-next (only f (means f) n xs); later = behind_only f (means f) }
+means (weak_next f) = record { first = λ n xs. ap weak_next (only f (means f) n xs); later = behind_only f (means f) }
 means (eventually f) = record { first = λ n xs. ap eventually (only f (means f) n xs); later = behind_only f (means f) }
 means (always f) = record { first = λ n xs. ap always (only f (means f) n xs); later = behind_only f (means f) }
 means (conj f g) = record { first = λ n xs. ap₂ conj (left f g (means f) (means g) n xs) (right f g (means f) (means g) n xs); later = behind_both f g (means f) (means g) }

@@ -6,7 +6,7 @@ use Rattle.ltlf.specs.declared.node.Node.{Node}
 use Rattle.ltlf.specs.declared.node.Node.TheVariants as node
 use Rattle.ltlf.specs.declared.reader.Operands.{Operands}
 use Rattle.ltlf.specs.declared.reader.Operands.TheVariants as operands
-use Rattle.ltlf.specs.Formula.{Formula, letter, neg, next, weak-next, eventually, always, conj, disj, implies, until, release, print, size, levels, temporals, Letters}
+use Rattle.ltlf.specs.Formula.{Formula, letter, neg, next, weak_next, eventually, always, conj, disj, implies, until, release, print, size, levels, temporals, Letters}
 use Rattle.ltlf.specs.Nodes.{flat, temporal, temporal_nodes}
 use Rattle.ltlf.specs.Prefix.{node_of, operands_of, beyond}
 use Rattle.ltlf.specs.Steps.{with_second}
@@ -47,7 +47,7 @@ pub length_flat : (n : ℕ) (f : Formula) → length (flat n f) ≡ size f
 length_flat n (letter a) = refl
 length_flat n (neg f) = ap suc (length_flat (suc n) f)
 length_flat n (next f) = ap suc (length_flat (suc n) f)
-length_flat n (weak-next f) = ap suc (length_flat (suc n) f)
+length_flat n (weak_next f) = ap suc (length_flat (suc n) f)
 length_flat n (eventually f) = ap suc (length_flat (suc n) f)
 length_flat n (always f) = ap suc (length_flat (suc n) f)
 length_flat n (conj f g) = both_lengths (flat (suc n) f) (flat (suc n + size f) g) (size f) (size g) (length_flat (suc n) f) (length_flat (suc n + size f) g)
@@ -68,7 +68,7 @@ pub temporal_flat : (n : ℕ) (f : Formula) → temporal_nodes (flat n f) ≡ te
 temporal_flat n (letter a) = refl
 temporal_flat n (neg f) = omega (arith, temporal_flat (suc n) f)
 temporal_flat n (next f) = omega (arith, temporal_flat (suc n) f)
-temporal_flat n (weak-next f) = omega (arith, temporal_flat (suc n) f)
+temporal_flat n (weak_next f) = omega (arith, temporal_flat (suc n) f)
 temporal_flat n (eventually f) = omega (arith, temporal_flat (suc n) f)
 temporal_flat n (always f) = omega (arith, temporal_flat (suc n) f)
 temporal_flat n (conj f g) = omega (arith, both_temporal (suc n) (suc n + size f) f g (temporal_flat (suc n) f) (temporal_flat (suc n + size f) g))
@@ -130,7 +130,7 @@ module _ (k b n : ℕ) where
   before (node.Action a) o e f = other _ _ 0 1 refl refl (λ q. omega arith) o
   before (node.Not i) o e f = (neg f, record { nodes = ap (λ j. node.Not j ∷ flat (suc n) f) (sym e.1); text = ap (λ c. c ∷ print f) (sym e.0); counted = omega arith; letters = λ l. l; deep = refl })
   before (node.Next i) o e f = (next f, record { nodes = ap (λ j. node.Next j ∷ flat (suc n) f) (sym e.1); text = ap (λ c. c ∷ print f) (sym e.0); counted = omega arith; letters = λ l. l; deep = refl })
-  before (node.WeakNext i) o e f = (weak-next f, record { nodes = ap (λ j. node.WeakNext j ∷ flat (suc n) f) (sym e.1); text = ap (λ c. c ∷ print f) (sym e.0); counted = omega arith; letters = λ l. l; deep = refl })
+  before (node.WeakNext i) o e f = (weak_next f, record { nodes = ap (λ j. node.WeakNext j ∷ flat (suc n) f) (sym e.1); text = ap (λ c. c ∷ print f) (sym e.0); counted = omega arith; letters = λ l. l; deep = refl })
   before (node.Eventually i) o e f = (eventually f, record { nodes = ap (λ j. node.Eventually j ∷ flat (suc n) f) (sym e.1); text = ap (λ c. c ∷ print f) (sym e.0); counted = omega arith; letters = λ l. l; deep = refl })
   before (node.Always i) o e f = (always f, record { nodes = ap (λ j. node.Always j ∷ flat (suc n) f) (sym e.1); text = ap (λ c. c ∷ print f) (sym e.0); counted = omega arith; letters = λ l. l; deep = refl })
   before (node.And i j) o e f = other _ _ 2 1 refl refl (λ q. omega arith) o

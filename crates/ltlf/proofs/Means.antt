@@ -3,7 +3,7 @@ use Rattle.std.proofs.Common.{ℕ, suc, ◌-◌, ◌<◌, ◌≤◌, ◌⊎◌, 
 use Rattle.std.proofs.lemmas.Bool.Decides.{Decides-like, Decides-not, Decides-and, Decides-or, Decides-ltb, Decides-eqb}
 use Rattle.wire.specs.Bounded.{some_from, every_from}
 use Rattle.wire.proofs.Bounded.{decides_implies, some_to, every_to}
-use Rattle.ltlf.specs.Formula.{letter, neg, next, weak-next, eventually, always, conj, disj, implies, until, release}
+use Rattle.ltlf.specs.Formula.{letter, neg, next, weak_next, eventually, always, conj, disj, implies, until, release}
 use Rattle.ltlf.specs.Truth.{holds}
 use Rattle.ltlf.specs.Meaning.{Holds, Decided}
 
@@ -11,7 +11,7 @@ pub decided : Decided
 decided (letter a) t i = Decides-and _ _ (Decides-ltb i (length t)) (Decides-eqb (get_or t i 0) a)
 decided (neg f) t i = Decides-not (holds f t i) (decided f t i)
 decided (next f) t i = Decides-and _ (holds f t (suc i)) (Decides-ltb (suc i) (length t)) (decided f t (suc i))
-decided (weak-next f) t i = Decides-or _ (holds f t (suc i)) (leb-true (length t) (suc i), le-leb (length t) (suc i)) (decided f t (suc i))
+decided (weak_next f) t i = Decides-or _ (holds f t (suc i)) (leb-true (length t) (suc i), le-leb (length t) (suc i)) (decided f t (suc i))
 decided (eventually f) t i = some_to (holds f t) (Holds f t) (decided f t) i (length t)
 decided (always f) t i = every_to (holds f t) (Holds f t) (decided f t) i (length t)
 decided (conj f g) t i = Decides-and (holds f t i) (holds g t i) (decided f t i) (decided g t i)

@@ -21,18 +21,18 @@ never : (w : List ℕ) → satisfied falsum w ≡ false
 never w = and_not (satisfied (letter 0) w)
 
 module _ (w : List ℕ) where
-  abbrev true-on : Formula → Bool
-  true-on f = satisfied f w
+  abbrev true_on : Formula → Bool
+  true_on f = satisfied f w
 
-  get_or_truths : (fs : List Formula) (k : ℕ) → get_or (map true-on fs) k false ≡ satisfied (get_or fs k falsum) w
+  get_or_truths : (fs : List Formula) (k : ℕ) → get_or (map true_on fs) k false ≡ satisfied (get_or fs k falsum) w
   get_or_truths [] k = sym (never w)
   get_or_truths (f ∷ fs) zero = refl
   get_or_truths (f ∷ fs) (suc k) = get_or_truths fs k
 
-  truth_behind : (n : ℕ) (fs : List Formula) (i : ℕ) → bit_behind n (map true-on fs) i ≡ satisfied (behind n fs i) w
+  truth_behind : (n : ℕ) (fs : List Formula) (i : ℕ) → bit_behind n (map true_on fs) i ≡ satisfied (behind n fs i) w
   truth_behind n fs i = go (ltb n i)
     where
-      go : (k : Bool) → (k && get_or (map true-on fs) (i - suc n) false) ≡ satisfied (cond k (get_or fs (i - suc n) falsum) falsum) w
+      go : (k : Bool) → (k && get_or (map true_on fs) (i - suc n) false) ≡ satisfied (cond k (get_or fs (i - suc n) falsum) falsum) w
       go true = get_or_truths fs (i - suc n)
       go false = sym (never w)
 
@@ -104,24 +104,24 @@ operand_from row n i bits h = go (ltb n i) refl
     go true e = h i (omega (arith, ltb-true n i e))
     go false e = refl
 
-end_bits : (n : ℕ) (xs : List Node) → bits_from end_rule n xs ≡ map (true-on []) (formulas n xs)
+end_bits : (n : ℕ) (xs : List Node) → bits_from end_rule n xs ≡ map (true_on []) (formulas n xs)
 end_bits n [] = refl
 end_bits n (x ∷ xs) =
     let rest = end_bits (suc n) xs in
     let fs = formulas (suc n) xs in
     ap₂ ◌∷◌ (end_node (behind n fs) _ (λ i. ap (λ bits. bit_behind n bits i) rest ∙ truth_behind [] n fs i) x) rest
 
-kept_bits : (w : List ℕ) (row : List Bool) (n : ℕ) (xs : List Node) → From row n (map (true-on w) (formulas n xs)) → bits_from (pending_rule row (empty w)) n xs ≡ map (kept w) (formulas n xs)
+kept_bits : (w : List ℕ) (row : List Bool) (n : ℕ) (xs : List Node) → From row n (map (true_on w) (formulas n xs)) → bits_from (pending_rule row (empty w)) n xs ≡ map (kept w) (formulas n xs)
 kept_bits w row n [] h = refl
 kept_bits w row n (x ∷ xs) h =
     let fs = formulas (suc n) xs in
     let own : Bool = satisfied (of_node (behind n fs) x) w in
-    let next = from_next row n own (map (true-on w) fs) h in
+    let next = from_next row n own (map (true_on w) fs) h in
     ap₂ ◌∷◌
-    (keep_node w (behind n fs) _ _ (λ i. operand_from row n i (map (true-on w) fs) next ∙ truth_behind w n fs i) x (from_here row n own (map (true-on w) fs) h))
+    (keep_node w (behind n fs) _ _ (λ i. operand_from row n i (map (true_on w) fs) next ∙ truth_behind w n fs i) x (from_here row n own (map (true_on w) fs) h))
     (kept_bits w row (suc n) xs next)
 
-step_bits : (a : ℕ) (w : List ℕ) (pending : List Bool) (n : ℕ) (xs : List Node) → From pending n (map (kept w) (formulas n xs)) → bits_from (before_rule a pending) n xs ≡ map (true-on (a ∷ w)) (formulas n xs)
+step_bits : (a : ℕ) (w : List ℕ) (pending : List Bool) (n : ℕ) (xs : List Node) → From pending n (map (kept w) (formulas n xs)) → bits_from (before_rule a pending) n xs ≡ map (true_on (a ∷ w)) (formulas n xs)
 step_bits a w pending n [] h = refl
 step_bits a w pending n (x ∷ xs) h =
     let fs = formulas (suc n) xs in
@@ -137,7 +137,7 @@ row_at_end xs = ap padded (end_bits 0 (take 64 xs))
 
 pub row_kept : (xs : List Node) (w : List ℕ) → row_by (pending_rule (truths xs w) (empty w)) xs ≡ keeps xs w
 unfolding row_by truths keeps
-row_kept xs w = ap padded (kept_bits w _ 0 (take 64 xs) (from_padded (map (true-on w) (formulas 0 (take 64 xs)))))
+row_kept xs w = ap padded (kept_bits w _ 0 (take 64 xs) (from_padded (map (true_on w) (formulas 0 (take 64 xs)))))
 
 pub row_step : (xs : List Node) (a : ℕ) (w : List ℕ) → row_by (before_rule a (keeps xs w)) xs ≡ truths xs (a ∷ w)
 unfolding row_by truths keeps
@@ -156,7 +156,7 @@ length_row h xs =
 
 pub length_truths : (xs : List Node) (w : List ℕ) → length (truths xs w) ≡ 64
 unfolding truths
-length_truths xs w = length_row (true-on w) xs
+length_truths xs w = length_row (true_on w) xs
 
 pub length_keeps : (xs : List Node) (w : List ℕ) → length (keeps xs w) ≡ 64
 unfolding keeps
@@ -165,7 +165,7 @@ length_keeps xs w = length_row (kept w) xs
 -- the first bit is the truth of the whole formula
 pub row_first : (xs : List Node) (w : List ℕ) → get_or (truths xs w) 0 false ≡ satisfied (formula_of (take 64 xs)) w
 unfolding truths
-row_first xs w = get_or_padded (map (true-on w) (formulas 0 (take 64 xs))) _ 0 ∙ get_or_truths w (formulas 0 (take 64 xs)) 0
+row_first xs w = get_or_padded (map (true_on w) (formulas 0 (take 64 xs))) _ 0 ∙ get_or_truths w (formulas 0 (take 64 xs)) 0
 
 -- a suffix is empty at the trace's end
 pub empty_drop : (t : List ℕ) (i : ℕ) → i ≤ length t → eqb i (length t) ≡ empty (drop i t)

@@ -12,7 +12,7 @@ use Rattle.ltlf.specs.declared.node.Node.{Node}
 use Rattle.ltlf.specs.declared.node.Node.TheVariants as node
 use Rattle.ltlf.specs.declared.reader.Operands.{Operands}
 use Rattle.ltlf.specs.declared.reader.Operands.TheVariants as operands
-use Rattle.ltlf.specs.Formula.{Formula, letter, neg, next, weak-next, eventually, always, conj, disj, implies, until, release, print, size, levels, temporals, Letters, Fits}
+use Rattle.ltlf.specs.Formula.{Formula, letter, neg, next, weak_next, eventually, always, conj, disj, implies, until, release, print, size, levels, temporals, Letters, Fits}
 use Rattle.ltlf.specs.Prefix.{Seen, sign_node, node_of, blank, strip, beyond, limit, fault_of, unless, after, owing, operands_of, ended, judge, start, in_range, verdict, cause_of, TextLaw}
 
 -- what has been seen, as in the verdict
@@ -22,17 +22,17 @@ at n t ds = record { signs = n; temporals = t; owed = ds }
 -- blanks before a sign change nothing
 module _ (k : ℕ) (s : Seen) (b : ℕ) (more : List ℕ) where
   -- the verdict at the sign b, which stands at place j before cs
-  abbrev Sign-next : ℕ → List ℕ → Type 0
-  Sign-next i bs =
+  abbrev SignNext : ℕ → List ℕ → Type 0
+  SignNext i bs =
       (cs : List ℕ) × (j : ℕ) × (strip cs ≡ more)
       × (judge k s i bs ≡ unless (fault_of k s (node_of b (suc s.signs))) j (judge k (after s (node_of b (suc s.signs))) (suc j) cs))
 
-  sign_next : (bs : List ℕ) (i : ℕ) → strip bs ≡ b ∷ more → Sign-next i bs
+  sign_next : (bs : List ℕ) (i : ℕ) → strip bs ≡ b ∷ more → SignNext i bs
   sign_next [] i e = absurd (none_first e) where
     none_first : [] ≡ b ∷ more → ⊥
     none_first h = let z : ◌≡◌ {A = ℕ} 0 1 = cc in omega arith
   sign_next (c ∷ bs) i e = go (blank c) refl (sign_next bs (suc i)) e where
-    go : (a : Bool) → blank c ≡ a → (strip bs ≡ b ∷ more → Sign-next (suc i) bs) → cond a (strip bs) (c ∷ strip bs) ≡ b ∷ more → (cs : List ℕ) × (j : ℕ) × (strip cs ≡ more) × (cond a (judge k s (suc i) bs) (unless (fault_of k s (node_of c (suc s.signs))) i (judge k (after s (node_of c (suc s.signs))) (suc i) bs)) ≡ unless (fault_of k s (node_of b (suc s.signs))) j (judge k (after s (node_of b (suc s.signs))) (suc j) cs))
+    go : (a : Bool) → blank c ≡ a → (strip bs ≡ b ∷ more → SignNext (suc i) bs) → cond a (strip bs) (c ∷ strip bs) ≡ b ∷ more → (cs : List ℕ) × (j : ℕ) × (strip cs ≡ more) × (cond a (judge k s (suc i) bs) (unless (fault_of k s (node_of c (suc s.signs))) i (judge k (after s (node_of c (suc s.signs))) (suc i) bs)) ≡ unless (fault_of k s (node_of b (suc s.signs))) j (judge k (after s (node_of b (suc s.signs))) (suc j) cs))
     go true p later h = later h
     go false p later h = (bs, i, tail-eq_of_cons-eq h, ap (λ x. unless (fault_of k s (node_of x (suc s.signs))) i (judge k (after s (node_of x (suc s.signs))) (suc i) bs)) (head-eq_of_cons-eq h))
 
@@ -94,7 +94,7 @@ some_levels : (f : Formula) → 0 < levels f
 some_levels (letter a) = omega arith
 some_levels (neg f) = omega arith
 some_levels (next f) = omega arith
-some_levels (weak-next f) = omega arith
+some_levels (weak_next f) = omega arith
 some_levels (eventually f) = omega arith
 some_levels (always f) = omega arith
 some_levels (conj f g) = omega arith
@@ -113,8 +113,8 @@ runs k q (neg f) l n t d ds r u h more bs i e =
 runs k q (next f) l n t d ds r u h more bs i e =
     one_runs k 88 n t d (node.Next (suc n)) refl refl (omega arith) (omega (arith, some_levels f)) (omega arith) ds f (next f) refl refl (omega arith) more
     (λ bs' i' e'. runs k q f l (suc n) (t + 1) (suc d) ds (omega arith) (omega arith) (omega arith) more bs' i' e') bs i e
-runs k q (weak-next f) l n t d ds r u h more bs i e =
-    one_runs k 78 n t d (node.WeakNext (suc n)) refl refl (omega arith) (omega (arith, some_levels f)) (omega arith) ds f (weak-next f) refl refl (omega arith) more
+runs k q (weak_next f) l n t d ds r u h more bs i e =
+    one_runs k 78 n t d (node.WeakNext (suc n)) refl refl (omega arith) (omega (arith, some_levels f)) (omega arith) ds f (weak_next f) refl refl (omega arith) more
     (λ bs' i' e'. runs k q f l (suc n) (t + 1) (suc d) ds (omega arith) (omega arith) (omega arith) more bs' i' e') bs i e
 runs k q (eventually f) l n t d ds r u h more bs i e =
     one_runs k 70 n t d (node.Eventually (suc n)) refl refl (omega arith) (omega (arith, some_levels f)) (omega arith) ds f (eventually f) refl refl (omega arith) more
@@ -162,7 +162,7 @@ abbrev formed : Node → Formula → Formula → Formula
 formed (node.Action a) f g = letter a
 formed (node.Not i) f g = neg f
 formed (node.Next i) f g = next f
-formed (node.WeakNext i) f g = weak-next f
+formed (node.WeakNext i) f g = weak_next f
 formed (node.Eventually i) f g = eventually f
 formed (node.Always i) f g = always f
 formed (node.And i j) f g = conj f g
@@ -210,7 +210,7 @@ front_of : (k : ℕ) → k ≤ 16 → (m : ℕ) (f : Formula) → Letters k f �
 front_of k q zero (letter a) l h more = absurd (omega arith)
 front_of k q zero (neg f) l h more = absurd (omega arith)
 front_of k q zero (next f) l h more = absurd (omega arith)
-front_of k q zero (weak-next f) l h more = absurd (omega arith)
+front_of k q zero (weak_next f) l h more = absurd (omega arith)
 front_of k q zero (eventually f) l h more = absurd (omega arith)
 front_of k q zero (always f) l h more = absurd (omega arith)
 front_of k q zero (conj f g) l h more = absurd (omega arith)
@@ -221,7 +221,7 @@ front_of k q zero (release f g) l h more = absurd (omega arith)
 front_of k q (suc m) (letter a) l h more = ap (λ o. sign_front (front m) o more) (letter_back k a q l)
 front_of k q (suc m) (neg f) l h more = ap (λ o. with_front o (λ f' cs. Some (neg f', cs))) (front_of k q m f l (omega arith) more)
 front_of k q (suc m) (next f) l h more = ap (λ o. with_front o (λ f' cs. Some (next f', cs))) (front_of k q m f l (omega arith) more)
-front_of k q (suc m) (weak-next f) l h more = ap (λ o. with_front o (λ f' cs. Some (weak-next f', cs))) (front_of k q m f l (omega arith) more)
+front_of k q (suc m) (weak_next f) l h more = ap (λ o. with_front o (λ f' cs. Some (weak_next f', cs))) (front_of k q m f l (omega arith) more)
 front_of k q (suc m) (eventually f) l h more = ap (λ o. with_front o (λ f' cs. Some (eventually f', cs))) (front_of k q m f l (omega arith) more)
 front_of k q (suc m) (always f) l h more = ap (λ o. with_front o (λ f' cs. Some (always f', cs))) (front_of k q m f l (omega arith) more)
 front_of k q (suc m) (conj f g) l h more = after_two (front m) f g more conj (front_of k q m f l.0 (omega arith) (print g ++ more)) (front_of k q m g l.1 (omega arith) more)

@@ -4,7 +4,7 @@ use Rattle.std.specs.Prelude.{ℕ, suc, ◌+◌, ◌<◌, ◌≤◌, max, List, 
 -- a letter; ! X N F G with one operand; & | > U R with two
 pub data Formula : Type 0 where
   letter : ℕ → Formula
-  neg next weak-next eventually always : Formula → Formula
+  neg next weak_next eventually always : Formula → Formula
   conj disj implies until release : Formula → Formula → Formula
 
 -- the prefix text, as bytes
@@ -12,7 +12,7 @@ abbrev pub print : Formula → List ℕ
 print (letter a) = (97 + a) ∷ []
 print (neg f) = 33 ∷ print f
 print (next f) = 88 ∷ print f
-print (weak-next f) = 78 ∷ print f
+print (weak_next f) = 78 ∷ print f
 print (eventually f) = 70 ∷ print f
 print (always f) = 71 ∷ print f
 print (conj f g) = 38 ∷ (print f ++ print g)
@@ -26,7 +26,7 @@ abbrev pub size : Formula → ℕ
 size (letter a) = 1
 size (neg f) = suc (size f)
 size (next f) = suc (size f)
-size (weak-next f) = suc (size f)
+size (weak_next f) = suc (size f)
 size (eventually f) = suc (size f)
 size (always f) = suc (size f)
 size (conj f g) = suc (size f + size g)
@@ -40,7 +40,7 @@ abbrev pub levels : Formula → ℕ
 levels (letter a) = 1
 levels (neg f) = suc (levels f)
 levels (next f) = suc (levels f)
-levels (weak-next f) = suc (levels f)
+levels (weak_next f) = suc (levels f)
 levels (eventually f) = suc (levels f)
 levels (always f) = suc (levels f)
 levels (conj f g) = suc (max (levels f) (levels g))
@@ -54,7 +54,7 @@ abbrev pub temporals : Formula → ℕ
 temporals (letter a) = 0
 temporals (neg f) = temporals f
 temporals (next f) = suc (temporals f)
-temporals (weak-next f) = suc (temporals f)
+temporals (weak_next f) = suc (temporals f)
 temporals (eventually f) = suc (temporals f)
 temporals (always f) = suc (temporals f)
 temporals (conj f g) = temporals f + temporals g
@@ -68,7 +68,7 @@ abbrev pub Letters : ℕ → Formula → Type 0
 Letters k (letter a) = a < k
 Letters k (neg f) = Letters k f
 Letters k (next f) = Letters k f
-Letters k (weak-next f) = Letters k f
+Letters k (weak_next f) = Letters k f
 Letters k (eventually f) = Letters k f
 Letters k (always f) = Letters k f
 Letters k (conj f g) = Letters k f × Letters k g

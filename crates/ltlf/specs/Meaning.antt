@@ -1,6 +1,6 @@
 -- The rules of truth as statements.
 use Rattle.std.specs.Prelude.{◌≡◌, ℕ, suc, ◌<◌, ◌≤◌, ◌⊎◌, List, length, Decides, slice_index}
-use Rattle.ltlf.specs.Formula.{Formula, letter, neg, next, weak-next, eventually, always, conj, disj, implies, until, release}
+use Rattle.ltlf.specs.Formula.{Formula, letter, neg, next, weak_next, eventually, always, conj, disj, implies, until, release}
 use Rattle.ltlf.specs.Truth.{holds}
 
 -- f holds of the trace t at place i, from 0 to the length of t
@@ -8,7 +8,7 @@ abbrev pub Holds : Formula → List ℕ → ℕ → Type 0
 Holds (letter a) t i = (i < length t) × (slice_index t i ≡ a)
 Holds (neg f) t i = Holds f t i → ⊥
 Holds (next f) t i = (suc i < length t) × Holds f t (suc i)
-Holds (weak-next f) t i = (length t ≤ suc i) ⊎ Holds f t (suc i)
+Holds (weak_next f) t i = (length t ≤ suc i) ⊎ Holds f t (suc i)
 Holds (eventually f) t i = (j : ℕ) × (i ≤ j) × (j < length t) × Holds f t j
 Holds (always f) t i = (j : ℕ) → i ≤ j → j < length t → Holds f t j
 Holds (conj f g) t i = Holds f t i × Holds g t i

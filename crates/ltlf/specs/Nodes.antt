@@ -2,14 +2,14 @@
 use Rattle.std.specs.Prelude.{ℕ, suc, ◌+◌, ◌-◌, Bool, true, false, cond, List, [], ◌∷◌, ◌++◌, nat_lt, slice_index_or}
 use Rattle.ltlf.specs.declared.node.Node.{Node}
 use Rattle.ltlf.specs.declared.node.Node.TheVariants as node
-use Rattle.ltlf.specs.Formula.{Formula, letter, neg, next, weak-next, eventually, always, conj, disj, implies, until, release, size}
+use Rattle.ltlf.specs.Formula.{Formula, letter, neg, next, weak_next, eventually, always, conj, disj, implies, until, release, size}
 
 -- the nodes of a formula, the first of them with number n
 abbrev pub flat : ℕ → Formula → List Node
 flat n (letter a) = node.Action a ∷ []
 flat n (neg f) = node.Not (suc n) ∷ flat (suc n) f
 flat n (next f) = node.Next (suc n) ∷ flat (suc n) f
-flat n (weak-next f) = node.WeakNext (suc n) ∷ flat (suc n) f
+flat n (weak_next f) = node.WeakNext (suc n) ∷ flat (suc n) f
 flat n (eventually f) = node.Eventually (suc n) ∷ flat (suc n) f
 flat n (always f) = node.Always (suc n) ∷ flat (suc n) f
 flat n (conj f g) = node.And (suc n) (suc n + size f) ∷ (flat (suc n) f ++ flat (suc n + size f) g)
@@ -27,7 +27,7 @@ abbrev pub of_node : (ℕ → Formula) → Node → Formula
 of_node at (node.Action a) = letter a
 of_node at (node.Not i) = neg (at i)
 of_node at (node.Next i) = next (at i)
-of_node at (node.WeakNext i) = weak-next (at i)
+of_node at (node.WeakNext i) = weak_next (at i)
 of_node at (node.Eventually i) = eventually (at i)
 of_node at (node.Always i) = always (at i)
 of_node at (node.And i j) = conj (at i) (at j)

@@ -1,7 +1,7 @@
 -- The rules of truth and of numbers on small examples.
 use Rattle.std.specs.Prelude.{◌≡◌, true, false, [], ◌∷◌}
 use Rattle.wire.specs.Number.{NumberExamples}
-use Rattle.ltlf.specs.Formula.{letter, neg, next, weak-next, eventually, always, until, release}
+use Rattle.ltlf.specs.Formula.{letter, neg, next, weak_next, eventually, always, until, release}
 use Rattle.ltlf.specs.Truth.{satisfied}
 
 -- letter 0 is a and letter 1 is b
@@ -12,7 +12,7 @@ pub record RuleExamples : Type 0 where
   pub empty_eventually : satisfied (eventually (letter 0)) [] ≡ false
   -- the trace a: X a fails, N a holds
   pub a_next : satisfied (next (letter 0)) (0 ∷ []) ≡ false
-  pub a_weak_next : satisfied (weak-next (letter 0)) (0 ∷ []) ≡ true
+  pub a_weak_next : satisfied (weak_next (letter 0)) (0 ∷ []) ≡ true
   -- the trace ab: U a b holds, R b a fails
   pub ab_until : satisfied (until (letter 0) (letter 1)) (0 ∷ (1 ∷ [])) ≡ true
   pub ab_release : satisfied (release (letter 1) (letter 0)) (0 ∷ (1 ∷ [])) ≡ false

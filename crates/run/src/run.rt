@@ -1,5 +1,5 @@
 // A run of an audited table on a board.
-ghost use Rattle.std.specs.Prelude.{◌≡◌, List};
+ghost use Rattle.std.specs.Prelude.{◌≡◌, false, List, IfOk};
 ghost use Rattle.board.specs.Arena.{Arena};
 ghost use Rattle.run.specs.Run.{birth, step, told, done_so, handed, rehearsed, spent};
 
@@ -48,7 +48,8 @@ impl Run {
         table: &AuditedTable,
         board: &B,
     ) -> Result<(u8, Slip), Refusal>
-        ensures { (handed result, self.new.rec) ≡ step (B.arena board.now) table.now.rows.items self.old.rec Event.Delegate }
+        ensures steps { (handed result, self.new.rec) ≡ step (B.arena board.now) table.now.rows.items self.old.rec Event.Delegate }
+        ensures unused { IfOk result (λ p. p.1.used ≡ false) }
     {
         let number = self.rec.number;
         let choice = self.rec.delegate(table, board)?;

@@ -1,5 +1,5 @@
 // The slip that a delegated choice is reported by.
-ghost use Rattle.std.specs.Prelude.{◌≡◌, true};
+ghost use Rattle.std.specs.Prelude.{◌≡◌, true, false};
 
 // Names the run that gave it. It is used up by a report or by waiving, and by nothing else.
 pub struct Slip {
@@ -9,7 +9,8 @@ pub struct Slip {
 
 impl Slip {
     pub(crate) fn of(run: u16) -> Slip
-        ensures { result.run ≡ run }
+        ensures number { result.run ≡ run }
+        ensures unused { result.used ≡ false }
     {
         Slip { run, used: false }
     }

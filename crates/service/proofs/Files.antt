@@ -11,7 +11,7 @@ use Rattle.service.specs.declared.service.Service.{Service}
 use Rattle.wire.specs.Fields.{field, ranged}
 use Rattle.service.specs.FileTables.{file_lawful, ServicesLawful}
 use Rattle.service.specs.File.{Contents, entry_of, row_of, table_of, service_of, services_of, file_of, no_service, zero_row, zero_service, pieces, row_bytes, service_bytes, bytes_of, RowWithin, ServiceWithin, Within, ServicesLaw}
-use Rattle.service.proofs.Slots.{passed, Reads-slot, filled_read, Takes-slot, filled_taken}
+use Rattle.service.proofs.Slots.{passed, ReadsSlot, filled_read, TakesSlot, filled_taken}
 
 in_range_lem : (at low high : ℕ) (r : Result (ℕ × ℕ) Refusal) (p : ℕ × ℕ) → ranged at low high r ≡ Ok p → (r ≡ Ok p) × (low ≤ p.0) × (p.0 ≤ high)
 in_range_lem at low high (Ok q) p e =
@@ -63,7 +63,7 @@ module _ (bs : List ℕ) where
     abbrev below : ℕ → ℕ → Type 0
     below n set = set < 2 ^ n
 
-    entry_read : (n : ℕ) → n ≤ 16 → Reads-slot bs 0 0 (entry_of bs (2 ^ n - 1)) groups (below n)
+    entry_read : (n : ℕ) → n ≤ 16 → ReadsSlot bs 0 0 (entry_of bs (2 ^ n - 1)) groups (below n)
     entry_read n h at to v e =
         let a = passed (field bs at 0 (2 ^ n - 1)) (λ p. Ok (p.1, p.0)) (to, v) e in
         let f = field_read at 0 (2 ^ n - 1) a.0 a.1 in
@@ -72,10 +72,10 @@ module _ (bs : List ℕ) where
         let l : a.0.0 < 2 ^ n = omega (arith, w.0, f.1) in
         subst (λ (p : ℕ × ℕ). below n p.1 × (drop at bs ≡ groups p.1 ++ drop p.0 bs)) q (l, f.2)
 
-    row_read : (n k : ℕ) → n ≤ 16 → k ≤ 16 → Reads-slot bs [] zero_row (row_of bs k (2 ^ n - 1)) (row_bytes k) (RowWithin n k)
+    row_read : (n k : ℕ) → n ≤ 16 → k ≤ 16 → ReadsSlot bs [] zero_row (row_of bs k (2 ^ n - 1)) (row_bytes k) (RowWithin n k)
     row_read n k h l at to row e = filled_read bs 0 0 (entry_of bs (2 ^ n - 1)) groups (below n) (entry_read n h) 16 k at to row l e
 
-    service_read : (k : ℕ) → k ≤ 16 → Reads-slot bs no_service zero_service (service_of bs k) (service_bytes k) (ServiceWithin k)
+    service_read : (k : ℕ) → k ≤ 16 → ReadsSlot bs no_service zero_service (service_of bs k) (service_bytes k) (ServiceWithin k)
     service_read k l at to x e =
         let a = passed (field bs at 1 16) _ (to, x) e in
         let n = a.0.0 in
@@ -122,16 +122,16 @@ module _ (bs : List ℕ) where
         let stands : bs ≡ bytes_of y = fa.2 ∙ ap (λ x. groups n ++ x) (fb.2 ∙ ap (λ x. groups k ++ x) rest) in
         subst (λ x. Within x × (bs ≡ bytes_of x)) end.1 (good, stands)
 
-  entry_taken : (n : ℕ) → n ≤ 16 → Takes-slot bs 0 0 (entry_of bs (2 ^ n - 1)) groups (λ set. set < 2 ^ n)
+  entry_taken : (n : ℕ) → n ≤ 16 → TakesSlot bs 0 0 (entry_of bs (2 ^ n - 1)) groups (λ set. set < 2 ^ n)
   entry_taken n h at v rest g l e =
       let w = power n h in
       let f = field_taken at 0 (2 ^ n - 1) v rest (omega arith) (omega (arith, w.0)) (omega (arith, w.1)) l e in
       (f.0, ap (λ r. and_then r (λ p. Ok (p.1, p.0))) f.1, f.2, f.3)
 
-  row_taken : (n k : ℕ) → n ≤ 16 → k ≤ 16 → Takes-slot bs [] zero_row (row_of bs k (2 ^ n - 1)) (row_bytes k) (RowWithin n k)
+  row_taken : (n k : ℕ) → n ≤ 16 → k ≤ 16 → TakesSlot bs [] zero_row (row_of bs k (2 ^ n - 1)) (row_bytes k) (RowWithin n k)
   row_taken n k h m at row rest g l e = filled_taken bs 0 0 (entry_of bs (2 ^ n - 1)) groups (λ set. set < 2 ^ n) (entry_taken n h) 16 k at row rest m g l e
 
-  service_taken : (k : ℕ) → k ≤ 16 → Takes-slot bs no_service zero_service (service_of bs k) (service_bytes k) (ServiceWithin k)
+  service_taken : (k : ℕ) → k ≤ 16 → TakesSlot bs no_service zero_service (service_of bs k) (service_bytes k) (ServiceWithin k)
   service_taken k m at x rest g l e =
       let n = x.states in
       let w = power n g.few_states in

@@ -15,7 +15,7 @@ module _ {P : Type 0} (bs : List ℕ) (d z : P) (read : ℕ → P → Result (�
   abbrev put : List P → ℕ → List ℕ
   put xs j = G (get_or xs j d)
 
-  pub record Read-on (n i at to : ℕ) (xs ys : List P) : Type 0 where
+  pub record ReadOn (n i at to : ℕ) (xs ys : List P) : Type 0 where
     pub long : length ys ≡ length xs
     pub below : (j : ℕ) → j < i → get_or ys j d ≡ get_or xs j d
     pub good : (j : ℕ) → i ≤ j → j < i + n → Good (get_or ys j d)
@@ -23,11 +23,11 @@ module _ {P : Type 0} (bs : List ℕ) (d z : P) (read : ℕ → P → Result (�
     pub bytes : drop at bs ≡ pieces (put ys) n i ++ drop to bs
 
   -- one slot that was read
-  abbrev pub Reads-slot : Type 0
-  Reads-slot = (at to : ℕ) (p : P) → read at z ≡ Ok (to, p) → Good p × (drop at bs ≡ G p ++ drop to bs)
+  abbrev pub ReadsSlot : Type 0
+  ReadsSlot = (at to : ℕ) (p : P) → read at z ≡ Ok (to, p) → Good p × (drop at bs ≡ G p ++ drop to bs)
 
-  module _ (one : Reads-slot) where
-    pub read_on : (n i at to : ℕ) (xs ys : List P) → i + n ≤ length xs → ((j : ℕ) → i ≤ j → j < length xs → get_or xs j d ≡ z) → steps (slot d read) n i (at, xs) ≡ Ok (to, ys) → Read-on n i at to xs ys
+  module _ (one : ReadsSlot) where
+    pub read_on : (n i at to : ℕ) (xs ys : List P) → i + n ≤ length xs → ((j : ℕ) → i ≤ j → j < length xs → get_or xs j d ≡ z) → steps (slot d read) n i (at, xs) ≡ Ok (to, ys) → ReadOn n i at to xs ys
     read_on zero i at to xs ys h l e =
         let q : ◌≡◌ {A = ℕ × List P} (at, xs) (to, ys) = cc in
         let x : xs ≡ ys = ap (λ (p : ℕ × List P). p.1) q in
@@ -71,10 +71,10 @@ module _ {P : Type 0} (bs : List ℕ) (d z : P) (read : ℕ → P → Result (�
         )
 
   -- one slot that stands there
-  abbrev pub Takes-slot : Type 0
-  Takes-slot = (at : ℕ) (p : P) (rest : List ℕ) → Good p → at ≤ length bs → drop at bs ≡ G p ++ rest → (to : ℕ) × (read at z ≡ Ok (to, p)) × (drop to bs ≡ rest) × (to ≤ length bs)
+  abbrev pub TakesSlot : Type 0
+  TakesSlot = (at : ℕ) (p : P) (rest : List ℕ) → Good p → at ≤ length bs → drop at bs ≡ G p ++ rest → (to : ℕ) × (read at z ≡ Ok (to, p)) × (drop to bs ≡ rest) × (to ≤ length bs)
 
-  module _ (one : Takes-slot) where
+  module _ (one : TakesSlot) where
     take_on : (n i at : ℕ) (xs ys : List P) (rest : List ℕ) → length xs ≡ length ys → i + n ≤ length ys → ((j : ℕ) → j < i → get_or xs j d ≡ get_or ys j d) → ((j : ℕ) → i ≤ j → j < length ys → get_or xs j d ≡ z) → ((j : ℕ) → j < i + n → Good (get_or ys j d)) → ((j : ℕ) → i + n ≤ j → j < length ys → get_or ys j d ≡ z) → at ≤ length bs → drop at bs ≡ pieces (put ys) n i ++ rest → (to : ℕ) × (steps (slot d read) n i (at, xs) ≡ Ok (to, ys)) × (drop to bs ≡ rest) × (to ≤ length bs)
     take_on zero i at xs ys rest long h below blank good unused l e =
         let same : xs ≡ ys = ext_get_or d xs ys long (λ j k. ⊎_elim (λ lt. below j lt) (λ ge. blank j ge (omega arith) ∙ sym (unused j (omega arith) (omega arith))) (cases_lt j i)) in

@@ -7,4 +7,4 @@ pub drop-back-requires : goal.drop-back-requires
 drop-back-requires c =
     let b = chart_arena c.args.chart.now in
     let rows = vec_items c.args.table.now.rows in
-    absurd (waits_waives b rows _ _ _ _ _ (c.in-Err-waive.ensures b rows) (refused_keeps b rows _ _ _ _ _ _ (c.in-Err-report.ensures rows) (given_waits b rows _ _ _ _ c.in-Ok.ensures)))
+    absurd (waits_waives b rows _ _ _ _ _ (c.in-Err-waive.ensures b rows) (refused_keeps b rows _ _ _ _ _ _ (c.in-Err-report.ensures rows) (given_waits b rows _ _ _ _ c.in-Ok.ensures.steps)))
