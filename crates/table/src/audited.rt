@@ -32,8 +32,7 @@ impl AuditedTable {
     }
 }
 
-// The first row of the position.
-pub fn find_row(rows: &[Row], position: u16) -> Option<Row>
+fn find_row(rows: &[Row], position: u16) -> Option<Row>
     ensures { result ≡ find rows.now position }
 {
     for row in rows {
