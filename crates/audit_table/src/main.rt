@@ -16,12 +16,8 @@ fn run(rt: &HostRuntime) -> anyhow::Result<()> {
     }
     match audit(rt.alloc(), bytes.as_slice(), &chart) {
         Ok(table) => {
-            let rows = table.rows().len();
-            let rank = match table.row(0) {
-                Some(row) => row.rank,
-                None => 0,
-            };
-            println!(rt; "accepted rows {rows} rank {rank}")?;
+            let rank = table.row(0).map_or(0, |row| row.rank);
+            println!(rt; "accepted rows {} rank {rank}", table.rows().len())?;
         }
         Err(refusal) => println!(rt; "{refusal}")?,
     }

@@ -1,5 +1,4 @@
 pub mod Classes
-pub mod Flags
 pub mod Numbering
 pub mod Profiles
 pub mod ClassSets

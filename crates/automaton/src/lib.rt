@@ -3,7 +3,6 @@
 
 pub mod automaton;
 mod class_set;
-mod flags;
 mod numbering;
 mod profile;
 #[cfg(test)]

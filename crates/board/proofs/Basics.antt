@@ -1,14 +1,17 @@
-use Rattle.std.proofs.Common.{◌≡◌, ℕ, zero, suc, ◌+◌, ◌<◌, ◌≤◌, Bool, true, false, cond, eqb, ◌⊎◌, List, [], ◌∷◌, map, length, get_or, sym, refl, ap, ◌∙◌, subst, ap₂, inl, inr, ⊎_elim, arith}
-use Rattle.std.proofs.lemmas.Bool.{cond_both, false≢true, eqb-true, eq-eqb, true≢false, both_ways, cases_Bool, cases_eq, cases_lt, and_parts, and_from, or_left, or_right, or_cases}
-use Rattle.board.specs.Lists.{Member, here, there, all, some, any_below, least, count, has, Distinct, Pigeonhole}
+use Rattle.std.proofs.Common.{◌≡◌, ℕ, zero, suc, ◌+◌, ◌<◌, ◌≤◌, Bool, true, false, cond, eqb, ◌⊎◌, List, [], ◌∷◌, length, get_or, map, sym, refl, ap, ◌∙◌, subst, ap₂, inl, inr, ⊎_elim, arith}
+use Rattle.std.proofs.lemmas.Bool.{cond_both, false≢true, eqb-true, true≢false, both_ways, cases_Bool, cases_eq, cases_lt, and_parts, and_from, or_left, or_right, or_cases}
+use Rattle.std.specs.List.{list_all}
+use Rattle.wire.specs.Members as elsewhere
+use Rattle.wire.proofs.Members.{pigeonhole as numbers_apart}
+use Rattle.board.specs.Lists.{Member, here, there, some, any_below, least, count, has, Distinct, Pigeonhole}
 
-pub all_from : {A : Type 0} (f : A → Bool) (xs : List A) → ((x : A) → Member x xs → f x ≡ true) → all f xs ≡ true
+pub all_from : {A : Type 0} (f : A → Bool) (xs : List A) → ((x : A) → Member x xs → f x ≡ true) → list_all f xs ≡ true
 all_from f [] h = refl
-all_from f (x ∷ xs) h = and_from (f x) (all f xs) (h x here) (all_from f xs (λ y m. h y (there m)))
+all_from f (x ∷ xs) h = and_from (f x) (list_all f xs) (h x here) (all_from f xs (λ y m. h y (there m)))
 
-pub all_at : {A : Type 0} (f : A → Bool) {x : A} {xs : List A} → Member x xs → all f xs ≡ true → f x ≡ true
-all_at f (here {x} {xs}) e = (and_parts (f x) (all f xs) e).0
-all_at f (there {x} {y} {xs} m) e = all_at f m (and_parts (f y) (all f xs) e).1
+pub all_at : {A : Type 0} (f : A → Bool) {x : A} {xs : List A} → Member x xs → list_all f xs ≡ true → f x ≡ true
+all_at f (here {x} {xs}) e = (and_parts (f x) (list_all f xs) e).0
+all_at f (there {x} {y} {xs} m) e = all_at f m (and_parts (f y) (list_all f xs) e).1
 
 pub none : {A B : Type 0} {x : A} → Member x [] → B
 none m = elim m [ ]
@@ -16,10 +19,6 @@ none m = elim m [ ]
 pub first : {A : Type 0} {x y : A} {xs : List A} → Member x (y ∷ xs) → (x ≡ y) ⊎ Member x xs
 first here = inl refl
 first (there m) = inr m
-
-pub some_of : {A : Type 0} {x : A} {xs : List A} → Member x xs → some xs ≡ true
-some_of here = refl
-some_of (there m) = refl
 
 pub some_has : {A : Type 0} (xs : List A) → some xs ≡ true → (x : A) × Member x xs
 some_has [] e = absurd (true≢false (sym e))
@@ -93,24 +92,20 @@ has_member q [] e = absurd (false≢true e)
 has_member q (x ∷ xs) e =
     ⊎_elim (λ t. subst (λ y. Member q (y ∷ xs)) (eqb-true q x t) here) (λ t. there (has_member q xs t)) (or_cases (eqb q x) (has q xs) e)
 
-pub pigeonhole : Pigeonhole
-pigeonhole n xs d below = omega (arith, counted n xs d below, count_le n (λ k. has k xs))
-  where
-    counted : (n : ℕ) (xs : List ℕ) → Distinct xs → ((x : ℕ) → Member x xs → x < n) → length xs ≤ count n (λ k. has k xs)
-    counted n [] d below = omega arith
-    counted n (x ∷ xs) d below =
-        let ih = counted n xs d.1 (λ y m. below y (there m)) in
-        ⊎_elim
-        (λ more. omega (arith, ih))
-        (λ same. absurd (d.0 (has_member x xs (sym (same.1 x (below x here)) ∙ or_left (eqb x x) (has x xs) (eq-eqb x x refl)))))
-        (count_more n (λ k. has k xs) (λ k. has k (x ∷ xs)) (λ k e. or_right (eqb k x) (has k xs) e))
-
 -- members by place
 pub member_at : {A : Type 0} (xs : List A) (i : ℕ) (d : A) → i < length xs → Member (get_or xs i d) xs
 member_at [] i d l = absurd (omega arith)
 member_at (x ∷ xs) zero d l = here
 member_at (x ∷ xs) (suc i) d l = there (member_at xs i d (omega arith))
 
-pub place_of_member : {A : Type 0} (d : A) {x : A} {xs : List A} → Member x xs → (i : ℕ) × (i < length xs) × (get_or xs i d ≡ x)
-place_of_member d here = (0, omega arith, refl)
-place_of_member d (there m) = let w = place_of_member d m in (suc w.0, omega (arith, w.1), w.2)
+-- membership by cases, and membership as a sum
+listed : {A : Type 0} (x : A) (xs : List A) → elsewhere.Member x xs → Member x xs
+listed x [] m = absurd m
+listed x (y ∷ xs) m = ⊎_elim (λ e. subst (λ z. Member x (z ∷ xs)) e here) (λ k. there (listed x xs k)) m
+
+apart : {A : Type 0} (xs : List A) → Distinct xs → elsewhere.Distinct xs
+apart [] d = tt
+apart (x ∷ xs) d = ((λ m. d.0 (listed x xs m)), apart xs d.1)
+
+pub pigeonhole : Pigeonhole
+pigeonhole n xs d below = numbers_apart n xs (apart xs d) (λ a m. below a (listed a xs m))

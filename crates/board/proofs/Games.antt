@@ -1,7 +1,8 @@
 -- Any game: what is won is what some orchestrator forces, and images of games.
 use Rattle.std.proofs.Common.{◌≡◌, ℕ, zero, suc, ◌+◌, ◌-◌, ◌<◌, ◌≤◌, Bool, true, false, cond, ◌&&◌, ◌||◌, List, [], ◌∷◌, map, Some, None, Decides, Option, sym, refl, ap, ◌∙◌, subst, ap₂, inl, inr, ⊎_elim, arith}
 use Rattle.std.proofs.lemmas.Bool.{both_ways, cases_Bool, cases_eq, and_parts, and_from, or_left, or_right, or_cases, cond-true, cond-false}
-use Rattle.board.specs.Lists.{Member, here, there, all, some, any_below}
+use Rattle.std.specs.List.{list_all}
+use Rattle.board.specs.Lists.{Member, here, there, some, any_below}
 use Rattle.board.specs.Game.{Game, forced, won, rank_to, choice_to, Unfinished, begun, moved, Forces, Within, next_rank, found_by, rank_if}
 use Rattle.board.proofs.Basics.{all_from, all_at, some_has, any_at, any_has, least_le, least_at, least_exact, least_before}
 
@@ -105,7 +106,7 @@ pub some_map : {X Y : Type 0} (f : X → Y) (xs : List X) → some (map f xs) �
 some_map f [] = refl
 some_map f (x ∷ xs) = refl
 
-pub all_map : {X Y : Type 0} (f : X → Y) (v : Y → Bool) (w : X → Bool) (xs : List X) → ((x : X) → Member x xs → v (f x) ≡ w x) → all v (map f xs) ≡ all w xs
+pub all_map : {X Y : Type 0} (f : X → Y) (v : Y → Bool) (w : X → Bool) (xs : List X) → ((x : X) → Member x xs → v (f x) ≡ w x) → list_all v (map f xs) ≡ list_all w xs
 all_map f v w [] h = refl
 all_map f v w (x ∷ xs) h = ap₂ ◌&&◌ (h x here) (all_map f v w xs (λ y m. h y (there m)))
 
@@ -134,7 +135,7 @@ module _ {X Y : Type 0} (g : Game X) (k : Game Y) (P : X → Type 0) (f : X → 
       (λ c l.
       let e = i.same_outcomes x c p l d in
       ap₂ ◌&&◌ (ap (some {A = Y}) e ∙ some_map f (g.outcomes x c))
-      (ap (all (won k m)) e ∙ all_map f (won k m) (won g m) (g.outcomes x c) (λ y n. image_won m y (i.stays x c y p l d n))))))
+      (ap (list_all (won k m)) e ∙ all_map f (won k m) (won g m) (g.outcomes x c) (λ y n. image_won m y (i.stays x c y p l d n))))))
       (cases_Bool (g.done x))
 
   -- what forces success in the image does so in the game
@@ -162,28 +163,6 @@ module _ {X Y : Type 0} (g : Game X) (k : Game Y) (P : X → Type 0) (f : X → 
     λ e. let w = (won_is_forced k m (f start)).0 e in ((λ z. w.0 (f z)), pull_back start w.0 m w.1 p),
     λ w. image_won m start p ∙ forced_won g start w.0 m w.1,
   )
-
--- Whole plays: xs n is what was read after n steps.
-pub record Ends {X : Type 0} (g : Game X) (o : X → ℕ) (xs : ℕ → X) (m : ℕ) : Type 0 where
-  pub steps : ℕ
-  pub in_time : steps ≤ m
-  pub succeeds : g.done (xs steps) ≡ true
-  pub before : (j : ℕ) → j < steps → (g.done (xs j) ≡ false) × (some (g.outcomes (xs j) (o (xs j))) ≡ true)
-
-module _ {X : Type 0} (g : Game X) (o : X → ℕ) (xs : ℕ → X) (m : ℕ) (f : Forces g (xs 0) o m) (play : (n : ℕ) → g.done (xs n) ≡ false → some (g.outcomes (xs n) (o (xs n))) ≡ true → Member (xs (suc n)) (g.outcomes (xs n) (o (xs n)))) where
-  abbrev Open : ℕ → Type 0
-  Open j = (g.done (xs j) ≡ false) × (some (g.outcomes (xs j) (o (xs j))) ≡ true)
-
-  go_on : (k n : ℕ) → n + k ≡ m → Unfinished g (xs 0) o (xs n) n → g.done (xs n) ≡ false → ((j : ℕ) → j < n → Open j) → Ends g o xs m
-  go_on zero n e u d before = absurd (omega (arith, (f (xs n) n u).0))
-  go_on (suc k) n e u d before =
-      let plays = (f (xs n) n u).2 in
-      let so_far : (j : ℕ) → j < suc n → Open j = λ j l. ⊎_elim (λ s. subst Open (sym s) (d, plays)) (λ ne. before j (omega arith)) (cases_eq j n) in
-      ⊎_elim (λ t. record { steps = suc n; in_time = omega arith; succeeds = t; before = so_far }) (λ t. go_on k (suc n) (omega arith) (moved u (play n d plays) t) t so_far) (cases_Bool (g.done (xs (suc n))))
-
-  pub plays_end : Ends g o xs m
-  plays_end =
-      ⊎_elim (λ t. record { steps = 0; in_time = omega arith; succeeds = t; before = λ j l. absurd (omega arith) }) (λ t. go_on m 0 (omega arith) (begun t) t (λ j l. absurd (omega arith))) (cases_Bool (g.done (xs 0)))
 
 -- Forcing by recursion.
 module _ {X : Type 0} (g : Game X) (start : X) (o : X → ℕ) where

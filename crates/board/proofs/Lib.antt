@@ -1,11 +1,11 @@
 pub mod Basics
 pub mod Games
-pub mod Ranks
+pub mod Ranking
 pub mod Tables
 pub mod Rounds
 pub mod Settling
 pub mod Rows
 pub mod Loops
-pub mod Puts
+pub mod Pieces
 pub mod Views
 pub mod Sheets

@@ -1,33 +1,26 @@
 -- Rounds find what they should, and once one adds nothing every rank is found.
-use Rattle.std.proofs.Common.{◌≡◌, ℕ, suc, ◌+◌, ◌<◌, ◌≤◌, Bool, true, false, cond, ◌||◌, List, length, get_or, set, is_some, Some, None, Option, sym, refl, ap, ◌∙◌, ⊎_elim, add-one, arith, get_or-set_other, get_or-set_same}
+use Rattle.std.proofs.Common.{◌≡◌, ℕ, suc, ◌+◌, ◌≤◌, Bool, true, false, cond, ◌||◌, List, get_or, replicate, is_some, Some, None, Option, sym, refl, ap, ◌∙◌, ⊎_elim, add-one, arith}
 use mathlib.Core.Path.{fun_ext}
-use Rattle.std.proofs.lemmas.List.{get_or_past}
-use Rattle.std.proofs.lemmas.Bool.{cases_Bool, cases_eq, cases_lt, cond-true, cond-false, lt-ltb}
+use Rattle.std.proofs.lemmas.List.{get_or_past, get_or-replicate, length-replicate}
+use Rattle.std.proofs.lemmas.Bool.{cases_Bool, cases_lt, cond-true, cond-false, lt-ltb}
 use Rattle.board.specs.Lists.{any_below}
-use Rattle.board.specs.Arena.{Arena, Lawful}
+use Rattle.board.specs.Arena.{Arena}
 use Rattle.board.specs.Game.{forced, next_rank, found_by, rank_if, rank_to}
 use Rattle.board.specs.Ranks.{moves, won}
 use Rattle.board.specs.Rounds.{under, held, raised, Found, Settled}
 use Rattle.board.proofs.Games.{as_found, rank_le, rank_won}
-use Rattle.board.proofs.Ranks.{stays}
+use Rattle.board.proofs.Ranking.{stays}
 use Rattle.board.proofs.Basics.{least_exact, least_before}
 
--- the done ones among the positions below p have rank 0, and no other of them has a rank
-abbrev pub Begun : Arena → ℕ → List (Option ℕ) → Type 0
-Begun b p ranks = (x : ℕ) → x < p → get_or ranks x None ≡ cond (b.done x) (Some 0) None
+-- the ranks before the first round
+abbrev pub done_first : Arena → ℕ → Option ℕ
+done_first b p = found_by (moves b) 0 p
 
-pub begun_more : (b : Arena) (p : ℕ) (ranks : List (Option ℕ)) (o : Option ℕ) → p < length ranks → o ≡ cond (b.done p) (Some 0) None → Begun b p ranks → Begun b (p + 1) (set ranks p o)
-begun_more b p ranks o l e h x k =
-    ⊎_elim
-    (λ (s : x ≡ p). ap (λ y. get_or (set ranks p o) y None) s ∙ get_or-set_same ranks p o None l ∙ e ∙ ap (λ y. cond (b.done y) (Some 0) None) (sym s))
-    (λ (d : x ≡ p → ⊥). get_or-set_other ranks p x o None d ∙ h x (omega arith))
-    (cases_eq x p)
+pub is_done : (b : Arena) (p : ℕ) → b.done p ≡ true → Some 0 ≡ done_first b p
+is_done b p e = sym (cond-true (b.done p) (Some 0) None e)
 
-pub begun_all : (b : Arena) → Lawful b → (n : ℕ) (ranks : List (Option ℕ)) → b.positions ≤ length ranks → length ranks ≤ n → Begun b n ranks → Found b 0 ranks
-begun_all b ok n ranks r e h p =
-    ⊎_elim (λ (l : p < length ranks). h p (omega arith))
-    (λ (l : length ranks ≤ p). get_or_past ranks p None l ∙ sym (cond-false (b.done p) _ _ (ok.beyond_done p (omega arith))))
-    (cases_lt p (length ranks))
+pub not_done : (b : Arena) (p n : ℕ) → b.done p ≡ false → get_or (replicate n None) p None ≡ done_first b p
+not_done b p n e = ⊎_elim (λ l. get_or-replicate n p None None l) (λ l. get_or_past (replicate n None) p None (omega (arith, l, length-replicate {A = Option ℕ} n None))) (cases_lt p n) ∙ sym (cond-false (b.done p) (Some 0) None e)
 
 -- what is found up to m says what is won within m
 module _ (b : Arena) (m : ℕ) where

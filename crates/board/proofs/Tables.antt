@@ -12,7 +12,7 @@ use Rattle.board.specs.Table.{Ascending, Accepted, find, rank_of, choice_of_row,
 use Rattle.board.specs.TableLaw.{SolutionIsRanked, SolutionIsAccepted, AcceptedForces, AcceptedIsAbove}
 use Rattle.board.proofs.Basics.{none, first}
 use Rattle.board.proofs.Games.{leads, rank_le, rank_won}
-use Rattle.board.proofs.Ranks.{read_back, forces_won, rank_is_least, rounds_end}
+use Rattle.board.proofs.Ranking.{read_back, forces_won, rank_is_least, rounds_end}
 
 -- a row is found under its position
 pub find_member : {r : Row} {rows : List Row} → Member r rows → Ascending rows → (p : ℕ) → r.position ≡ p → find rows p ≡ Some r

@@ -3,7 +3,7 @@ use Rattle.std.specs.Prelude.{◌≡◌, ℕ, List, [], ◌∷◌}
 use Rattle.wire.specs.Reading.{left}
 use Rattle.board.specs.declared.table.Row.{Row}
 use Rattle.board.specs.Arena.{Arena}
-use Rattle.board.specs.Charts.{arena_of}
+use Rattle.board.specs.Spots.{arena_of}
 use Rattle.board.specs.Reading.{Sheet, sheet_of, zero_sheet}
 use Rattle.board.specs.Table.{solution}
 
@@ -12,7 +12,7 @@ abbrev pub roll_file : List ℕ
 roll_file = 3 ∷ 2 ∷ 0 ∷ 2 ∷ 1 ∷ 2 ∷ 0 ∷ 1 ∷ 0 ∷ 0 ∷ 0 ∷ 0 ∷ 1 ∷ 1 ∷ []
 
 abbrev pub shown_by : Sheet → Arena
-shown_by x = arena_of x.positions x.choices x.places
+shown_by x = arena_of x.positions x.choices x.spots
 
 abbrev pub row_of : ℕ → ℕ → ℕ → Row
 row_of p r c = record { position = p; rank = r; choice = c }

@@ -1,6 +1,7 @@
 -- Games of one orchestrator against what may happen. X is what the orchestrator has read so far.
 use Rattle.std.specs.Prelude.{◌≡◌, ℕ, zero, suc, ◌-◌, ◌<◌, Bool, true, false, cond, ◌&&◌, ◌||◌, ◌⊎◌, List, Some, None, Option}
-use Rattle.board.specs.Lists.{Member, all, some, any_below, least}
+use Rattle.std.specs.List.{list_all}
+use Rattle.board.specs.Lists.{Member, some, any_below, least}
 
 pub record Game (X : Type 0) : Type 0 where
   pub choices : ℕ
@@ -9,7 +10,7 @@ pub record Game (X : Type 0) : Type 0 where
 
 -- a playable choice with all outcomes in w
 abbrev pub forced : {X : Type 0} → Game X → (X → Bool) → X → ℕ → Bool
-forced g w x c = some (g.outcomes x c) && all w (g.outcomes x c)
+forced g w x c = some (g.outcomes x c) && list_all w (g.outcomes x c)
 
 -- one round: what is in w, and where some playable choice has all outcomes in w
 abbrev pub round : {X : Type 0} → Game X → (X → Bool) → X → Bool

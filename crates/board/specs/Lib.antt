@@ -7,8 +7,9 @@ pub mod Table
 pub mod TableLaw
 pub mod Rounds
 pub mod Solving
-pub mod Place
+pub mod Spot
 pub mod Layout
+pub mod Spots
 pub mod Charts
 pub mod Reading
 pub mod ChartFile

@@ -1,80 +1,80 @@
 -- What the bytes of a chart file say, number by number.
-use Rattle.std.specs.Prelude.{◌≡◌, ℕ, ◌+◌, ◌-◌, Bool, cond, ◌⊎◌, List, [], ◌∷◌, ◌++◌, length, replicate, Ok, Err, Result, ◌==◌, nat_lt, slice_set}
-use Rattle.wire.specs.declared.refusal.Cause.TheVariants as cause
+use Rattle.std.specs.Prelude.{◌≡◌, ℕ, ◌+◌, ◌-◌, cond, ◌⊎◌, List, [], ◌∷◌, ◌++◌, Ok, Err, Result, ◌==◌}
 use Rattle.wire.specs.declared.refusal.Refusal.{Refusal}
-use Rattle.wire.specs.Refusals.{refused, no_memory}
+use Rattle.wire.specs.Refusals.{no_memory}
 use Rattle.wire.specs.Fields.{field}
 use Rattle.wire.specs.Reading.{and_then, steps, answer, left}
-use Rattle.board.specs.declared.place.Entry.{Entry}
-use Rattle.board.specs.declared.place.Place.{Place}
-use Rattle.board.specs.Place.{no_entry}
+use Rattle.wire.specs.Readers.{ended}
+use Rattle.board.specs.Spot.{Seen, Done, Open}
 
--- outcome i, of n positions: from where on, the least that it may be, and the outcomes so far
+-- what a reader that may want memory answers, by what the bytes say
+abbrev pub Reads : {A X : Type 0} → (A → X) → Result A Refusal → Result X Refusal → Type 0
+Reads view (Ok a) there = there ≡ Ok (view a)
+Reads view (Err e) there = (there ≡ Err e) ⊎ (e ≡ no_memory)
+
+-- and where it then stands; after a refusal it may stand anywhere
+abbrev pub ReadsTo : {A X : Type 0} → (A → X) → Result A Refusal → ℕ → Result (X × ℕ) Refusal → Type 0
+ReadsTo view r at there = Reads (λ a. (view a, at)) r there
+
+-- one more of several things: where it ends, and the things so far
+abbrev pub one_more : {X : Type 0} → (ℕ → Result (X × ℕ) Refusal) → ℕ → ℕ × List X → Result (ℕ × List X) Refusal
+one_more read i s = and_then (read s.0) (λ p. Ok (p.1, s.1 ++ (p.0 ∷ [])))
+
+-- m things, and where they end
+abbrev pub several : {X : Type 0} → (ℕ → Result (X × ℕ) Refusal) → ℕ → ℕ → Result (List X × ℕ) Refusal
+several read m at = and_then (steps (one_more read) m 0 (at, [])) (λ s. Ok (s.1, s.0))
+
+-- one more outcome, of n positions: where it ends, the least that the next may be, and the outcomes so far
 abbrev pub outcome_of : List ℕ → ℕ → ℕ → ℕ × ℕ × List ℕ → Result (ℕ × ℕ × List ℕ) Refusal
-outcome_of bs n i s = and_then (field bs s.0 s.1 (n - 1)) (λ p. Ok (p.1, p.0 + 1, slice_set s.2 i p.0))
+outcome_of bs n i s = and_then (field bs s.0 s.1 (n - 1)) (λ p. Ok (p.1, p.0 + 1, s.2 ++ (p.0 ∷ [])))
 
-abbrev pub outcomes_of : List ℕ → ℕ → ℕ → ℕ → Result (ℕ × ℕ × List ℕ) Refusal
-outcomes_of bs n m at = steps (outcome_of bs n) m 0 (at, 0, replicate 8 0)
+-- the outcomes of a choice
+abbrev pub choice_of : List ℕ → ℕ → ℕ → Result (List ℕ × ℕ) Refusal
+choice_of bs n at =
+    and_then (field bs at 0 8) (λ m.
+    and_then (steps (outcome_of bs n) m.0 0 (m.1, 0, [])) (λ s.
+    Ok (s.2, s.0)))
 
--- m outcomes, and where they end
-unfoldable pub outcomes_at : List ℕ → ℕ → ℕ → ℕ → Result (List ℕ × ℕ) Refusal
-outcomes_at bs n m at = and_then (outcomes_of bs n m at) (λ s. Ok (s.2, s.0))
+-- k choices
+abbrev pub choices_of : List ℕ → ℕ → ℕ → ℕ → Result (List (List ℕ) × ℕ) Refusal
+choices_of bs n k at = several (choice_of bs n) k at
 
--- the outcomes of a choice, none at a done position
-abbrev pub entry_of : List ℕ → ℕ → Bool → ℕ → Result (Entry × ℕ) Refusal
-entry_of bs n done at =
-    and_then (field bs at 0 (cond done 0 8)) (λ m.
-    and_then (outcomes_at bs n m.0 m.1) (λ s.
-    Ok (record { count = m.0; outcomes = s.0 }, s.1)))
+-- a choice of a done position has no outcomes
+abbrev pub no_outcome_of : List ℕ → ℕ → ℕ → Result ℕ Refusal
+no_outcome_of bs i at = and_then (field bs at 0 0) (λ p. Ok p.1)
 
-abbrev pub choice_of : List ℕ → ℕ → Bool → ℕ → ℕ × List Entry → Result (ℕ × List Entry) Refusal
-choice_of bs n done i s = and_then (entry_of bs n done s.0) (λ p. Ok (p.1, slice_set s.1 i p.0))
-
-abbrev pub choices_of : List ℕ → ℕ → Bool → ℕ → ℕ → Result (ℕ × List Entry) Refusal
-choices_of bs n done k at = steps (choice_of bs n done) k 0 (at, replicate 8 no_entry)
-
--- k choices, and where they end
-unfoldable pub entries_at : List ℕ → ℕ → Bool → ℕ → ℕ → Result (List Entry × ℕ) Refusal
-entries_at bs n done k at = and_then (choices_of bs n done k at) (λ s. Ok (s.1, s.0))
+abbrev pub no_outcomes_of : List ℕ → ℕ → ℕ → Result (Unit {0} × ℕ) Refusal
+no_outcomes_of bs k at = and_then (steps (no_outcome_of bs) k 0 at) (λ to. Ok (tt, to))
 
 -- a position: whether it is done, and its k choices
-abbrev pub place_of : List ℕ → ℕ → ℕ → ℕ → Result (Place × ℕ) Refusal
-place_of bs n k at =
+abbrev pub spot_of : List ℕ → ℕ → ℕ → ℕ → Result (Seen × ℕ) Refusal
+spot_of bs n k at =
     and_then (field bs at 0 1) (λ d.
-    and_then (entries_at bs n (d.0 == 1) k d.1) (λ s.
-    Ok (record { done = (d.0 == 1); entries = s.0 }, s.1)))
+    cond (d.0 == 1)
+    (and_then (no_outcomes_of bs k d.1) (λ s. Ok (Done, s.1)))
+    (and_then (choices_of bs n k d.1) (λ s. Ok (Open s.0, s.1))))
 
-abbrev pub position_of : List ℕ → ℕ → ℕ → ℕ → ℕ × List Place → Result (ℕ × List Place) Refusal
-position_of bs n k i s = and_then (place_of bs n k s.0) (λ p. Ok (p.1, s.1 ++ (p.0 ∷ [])))
+-- each position
+abbrev pub spots_of : List ℕ → ℕ → ℕ → ℕ → Result (List Seen × ℕ) Refusal
+spots_of bs n k at = several (spot_of bs n k) n at
 
-unfoldable pub positions_of : List ℕ → ℕ → ℕ → ℕ → Result (ℕ × List Place) Refusal
-positions_of bs n k at = steps (position_of bs n k) n 0 (at, [])
-
--- the numbers of positions and choices, and the places
+-- the numbers of positions and choices, and the spots
 pub record Sheet : Type 0 where
   pub positions : ℕ
   pub choices : ℕ
-  pub places : List Place
+  pub spots : List Seen
 
 abbrev pub zero_sheet : Sheet
-zero_sheet = record { positions = 1; choices = 1; places = [] }
+zero_sheet = record { positions = 1; choices = 1; spots = [] }
 
 -- the whole file
 abbrev pub sheet_of : List ℕ → Result Sheet Refusal
 sheet_of bs =
     and_then (field bs 0 1 256) (λ n.
     and_then (field bs n.1 1 8) (λ k.
-    and_then (positions_of bs n.0 k.0 k.1) (λ s.
-    cond (nat_lt s.0 (length bs)) (Err (refused cause.BytesLeftOver s.0)) (Ok (record { positions = n.0; choices = k.0; places = s.1 })))))
-
--- what readers that may want memory answer and leave; after a refusal they may leave anything
-abbrev pub Placed : Result ℕ Refusal → List Place → Result (ℕ × List Place) Refusal → Type 0
-Placed (Ok to) xs q = q ≡ Ok (to, xs)
-Placed (Err e) xs q = (q ≡ Err e) ⊎ (e ≡ no_memory)
-
-abbrev pub Filled : Result (ℕ × ℕ) Refusal → List Place → Result Sheet Refusal → Type 0
-Filled (Ok p) xs q = q ≡ Ok (record { positions = p.0; choices = p.1; places = xs })
-Filled (Err e) xs q = (q ≡ Err e) ⊎ (e ≡ no_memory)
+    and_then (spots_of bs n.0 k.0 k.1) (λ s.
+    and_then (ended bs s.1) (λ _.
+    Ok (record { positions = n.0; choices = k.0; spots = s.0 })))))
 
 -- the answer and the sheet that is left are those of the bytes, or memory was wanting
 abbrev pub ReadsSheet : List ℕ → Result (Unit {0}) Refusal → Sheet → Type 0

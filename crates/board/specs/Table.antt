@@ -43,6 +43,10 @@ choice_in rows p = choice_of_row (find rows p)
 abbrev pub row : Arena → ℕ → Row
 row b p = record { position = p; rank = ranks.rank b p; choice = cond (b.done p) 0 (ranks.choice b p) }
 
+-- and what it has for any position
+abbrev pub row_if : Arena → ℕ → Option Row
+row_if b p = cond (ranked b p) (Some (row b p)) None
+
 abbrev pub keep : Bool → Row → List Row → List Row
 keep true r rs = r ∷ rs
 keep false r rs = rs

@@ -2,6 +2,9 @@
 ghost use Rattle.std.specs.Prelude.{◌≡◌};
 ghost use Rattle.board.specs.Arena.{Arena, Lawful};
 
+// A board has at most this many positions.
+pub const MAX_POSITIONS: usize = 1024;
+
 // A board: numbered positions, 0 the start, and the same numbered choices at each. Its arena is what it means.
 pub trait Board {
     ghost arena: { Self → Arena };

@@ -1,18 +1,25 @@
 // A board as a table.
-ghost use Rattle.std.specs.Prelude.{vec_len};
-ghost use Rattle.board.specs.Layout.{Sized, Sound};
+ghost use Rattle.std.specs.Prelude.{◌≤◌, vec_len};
+ghost use Rattle.board.specs.Layout.{Limits, Sound};
 
-use crate::place::Place;
+use crate::spot::Spot;
 
 pub mod reader;
 pub mod shows;
 
-// What stands past the places is not done and has no outcomes.
+// The numbers of positions and of choices of a chart.
+#[derive(Clone, Copy)]
+pub(crate) struct Size {
+    pub(crate) positions: u16,
+    pub(crate) choices: u16,
+    ghost limits: { Limits positions choices },
+}
+
+// What stands past the spots is not done and has no outcomes: the zero chart has a position and no spot, since a spot would want memory.
 #[derive(Drop)]
 pub struct Chart {
-    positions: u16,
-    choices: u8,
-    places: Vec<Place>,
-    ghost sized: { Sized positions choices (vec_len places) },
-    ghost sound: { Sound positions choices places.items },
+    size: Size,
+    spots: Vec<Spot>,
+    ghost sized: { vec_len spots ≤ size.positions },
+    ghost sound: { Sound size.positions size.choices spots.items },
 }

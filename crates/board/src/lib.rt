@@ -4,8 +4,9 @@
 pub mod board;
 pub mod chart;
 pub mod laws;
-mod place;
+pub mod ranks;
 pub mod solve;
+pub mod spot;
 pub mod table;
 #[cfg(test)]
 mod tests;

@@ -3,8 +3,9 @@ ghost use Rattle.std.specs.Prelude.{◌≡◌, []};
 
 use std::alloc::Global;
 
-// A position, the number of steps within which it is won, and the choice to play there (0 where the position is done).
-#[derive(Clone, Copy)]
+// A position, the number of steps within which it is won, and the choice to play there.
+// The choice of a done position is 0 and not None: rows are shown and compared so.
+#[derive(Clone, Copy, PartialEq, Eq, Debug)]
 pub struct Row {
     pub position: u16,
     pub rank: u16,

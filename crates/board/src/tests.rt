@@ -2,7 +2,7 @@
 use crate::chart::Chart;
 use crate::chart::reader::read_chart;
 use crate::solve::solve;
-use crate::table::Table;
+use crate::table::{Row, Table};
 use std::test::Fail;
 use wire::refusal::Cause;
 
@@ -12,11 +12,27 @@ fn solves_the_paper_roll(rt: HostRuntime) -> Result<(), Fail> {
     read_chart(&[3, 2, 0, 2, 1, 2, 0, 1, 0, 0, 0, 0, 1, 1], &mut chart)?;
     let mut table = Table::empty(rt.alloc());
     solve(&chart, &mut table)?;
-    let rows = table.rows();
-    assert!(rt; rows.len() == 3);
-    assert!(rt; (rows[0].position, rows[0].rank, rows[0].choice) == (0, 2, 0));
-    assert!(rt; (rows[1].position, rows[1].rank, rows[1].choice) == (1, 0, 0));
-    assert!(rt; (rows[2].position, rows[2].rank, rows[2].choice) == (2, 1, 1));
+    assert_eq!(rt;
+        table.rows(),
+        [
+            Row {
+                position: 0,
+                rank: 2,
+                choice: 0,
+            },
+            Row {
+                position: 1,
+                rank: 0,
+                choice: 0,
+            },
+            Row {
+                position: 2,
+                rank: 1,
+                choice: 1,
+            },
+        ]
+        .as_slice()
+    );
     Ok(())
 }
 

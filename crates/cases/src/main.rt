@@ -2,15 +2,17 @@
 #![tactic(auto)]
 
 mod boards;
+mod failure;
 mod lives;
 mod roll;
 mod text;
 mod words;
 
+use crate::failure::Failure;
 use std::io::{BufRead, BufReader};
 
-// Answers one line.
-fn answer(rt: &HostRuntime, line: &str) -> anyhow::Result<()> {
+// Answers one line, unless the call refuses it.
+fn answer(rt: &HostRuntime, line: &str) -> Result<(), Failure> {
     let mut words = line.split(' ');
     let call = words.next().unwrap_or("");
     let first = words.next().unwrap_or("");
@@ -28,17 +30,17 @@ fn answer(rt: &HostRuntime, line: &str) -> anyhow::Result<()> {
             let number = words.next().unwrap_or("");
             lives::life(rt, first, second, number, words.next().unwrap_or(""))
         }
-        _ => {
-            println!(rt; "{line}")?;
-            Ok(())
-        }
+        _ => Ok(println!(rt; "{line}")?),
     }
 }
 
 fn run(rt: &HostRuntime) -> anyhow::Result<()> {
     for line in BufReader::new(rt.alloc(), rt.stdin())?.lines(rt.alloc()) {
-        let line = line?;
-        answer(rt, line.as_str())?;
+        match answer(rt, line?.as_str()) {
+            Ok(()) => {}
+            Err(Failure::Refused(refusal)) => println!(rt; "{refusal}")?,
+            Err(Failure::Broken(error)) => return Err(error),
+        }
     }
     Ok(())
 }

@@ -1,4 +1,5 @@
 // Numbers, tasks, truth and services files.
+use crate::failure::Failure;
 use crate::words;
 use ltlf::reader::read_task;
 use ltlf::task::Task;
@@ -6,25 +7,27 @@ use ltlf::truth::satisfies;
 use service::file::{CommunityFile, read_services};
 use wire::number::number_at;
 
+// The task that a word spells, over so many actions.
+fn task_of(rt: &HostRuntime, actions: &str, word: &str) -> Result<Task, Failure> {
+    let text = words::bytes(rt.alloc(), word)?;
+    let actions = (words::number(actions) & 255) as u8;
+    let mut task = Task::zero(rt.alloc());
+    read_task(actions, text.as_slice(), &mut task)?;
+    Ok(task)
+}
+
 // number BYTES
-pub(crate) fn number(rt: &HostRuntime, word: &str) -> anyhow::Result<()> {
+pub(crate) fn number(rt: &HostRuntime, word: &str) -> Result<(), Failure> {
     let bytes = words::bytes(rt.alloc(), word)?;
-    match number_at(bytes.as_slice(), 0) {
-        Ok((value, _)) => println!(rt; "{value}")?,
-        Err(refusal) => println!(rt; "{refusal}")?,
-    }
+    let (value, _) = number_at(bytes.as_slice(), 0)?;
+    println!(rt; "{value}")?;
     Ok(())
 }
 
 // task ACTIONS TEXT
-pub(crate) fn task(rt: &HostRuntime, actions: &str, word: &str) -> anyhow::Result<()> {
-    let text = words::bytes(rt.alloc(), word)?;
-    let actions = (words::number(actions) & 255) as u8;
-    let mut task = Task::zero(rt.alloc());
-    match read_task(actions, text.as_slice(), &mut task) {
-        Ok(()) => println!(rt; "read")?,
-        Err(refusal) => println!(rt; "{refusal}")?,
-    }
+pub(crate) fn task(rt: &HostRuntime, actions: &str, word: &str) -> Result<(), Failure> {
+    task_of(rt, actions, word)?;
+    println!(rt; "read")?;
     Ok(())
 }
 
@@ -34,32 +37,18 @@ pub(crate) fn satisfaction(
     actions: &str,
     word: &str,
     trace: &str,
-) -> anyhow::Result<()> {
-    let text = words::bytes(rt.alloc(), word)?;
+) -> Result<(), Failure> {
+    let task = task_of(rt, actions, word)?;
     let trace = words::bytes(rt.alloc(), trace)?;
-    let actions = (words::number(actions) & 255) as u8;
-    let mut task = Task::zero(rt.alloc());
-    match read_task(actions, text.as_slice(), &mut task) {
-        Ok(()) => {
-            let holds = satisfies(&task, trace.as_slice());
-            println!(rt; "{holds}")?;
-        }
-        Err(refusal) => println!(rt; "{refusal}")?,
-    }
+    println!(rt; "{}", satisfies(&task, trace.as_slice()))?;
     Ok(())
 }
 
 // services BYTES
-pub(crate) fn services(rt: &HostRuntime, word: &str) -> anyhow::Result<()> {
+pub(crate) fn services(rt: &HostRuntime, word: &str) -> Result<(), Failure> {
     let bytes = words::bytes(rt.alloc(), word)?;
     let mut file = CommunityFile::zero();
-    match read_services(bytes.as_slice(), &mut file) {
-        Ok(()) => {
-            let services = file.services();
-            let actions = file.actions();
-            println!(rt; "services {services} actions {actions}")?;
-        }
-        Err(refusal) => println!(rt; "{refusal}")?,
-    }
+    read_services(bytes.as_slice(), &mut file)?;
+    println!(rt; "services {} actions {}", file.services(), file.actions())?;
     Ok(())
 }

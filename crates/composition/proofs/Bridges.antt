@@ -9,7 +9,7 @@ use Rattle.board.specs.Ranks.{moves, won}
 use Rattle.board.specs.Table.{rank_in, choice_in}
 use Rattle.board.proofs.Basics.{member_unmap}
 use Rattle.board.proofs.Games.{Image, member_map, image_won, rank_le, pull_back, won_is_forced_here}
-use Rattle.board.proofs.Ranks.{rounds_end}
+use Rattle.board.proofs.Ranking.{rounds_end}
 use Rattle.board.proofs.Tables.{rows_force}
 use Rattle.composition.specs.declared.place.Place.{Place}
 use Rattle.composition.specs.Services.{Services}

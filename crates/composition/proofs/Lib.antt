@@ -1,7 +1,7 @@
 pub mod Bridges
 pub mod Founds
 pub mod Explores
-pub mod Finals
-pub mod Lays
+pub mod Below
 pub mod Composes
 pub mod Listing
+pub mod Lays

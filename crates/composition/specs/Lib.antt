@@ -4,7 +4,7 @@ pub mod Places
 pub mod Composed
 pub mod Law
 pub mod Products
-pub mod Layout
 pub mod Boards
 pub mod Lays
+pub mod Surveys
 pub mod Composing

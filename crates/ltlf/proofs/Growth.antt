@@ -1,5 +1,5 @@
 -- A formula is read: its sign, and then its operands.
-use Rattle.std.proofs.Common.{◌≡◌, ℕ, suc, ◌+◌, ◌-◌, ◌≤◌, List, [], ◌∷◌, ◌++◌, length, drop, set, Ok, Err, Result, sym, ap, ◌∙◌, inl, inr, ⊎_elim, append_assoc, arith, length-append, length-set}
+use Rattle.std.proofs.Common.{◌≡◌, ℕ, suc, ◌+◌, ◌-◌, ◌≤◌, List, [], ◌∷◌, ◌++◌, length, drop, set, Ok, Err, Result, sym, ap, ◌∙◌, subst, inl, inr, ⊎_elim, append_assoc, arith, length-append, length-set}
 use lib.Seq.{set-append_seam}
 use Rattle.wire.specs.declared.refusal.Refusal.{Refusal}
 use Rattle.ltlf.specs.declared.node.Node.{Node}
@@ -15,6 +15,11 @@ use Rattle.ltlf.proofs.Forms.{spelt, length_flat, lone, before, before_both}
 -- one more node
 length_push : (xs : List Node) (x : Node) → length (xs ++ x ∷ []) ≡ suc (length xs)
 length_push xs x = length-append xs (x ∷ []) ∙ omega arith
+
+-- what was read of the same text for the same actions
+pub carried : (k k' : ℕ) (bs bs' : List ℕ) (l : ℕ) (p q : Progress) (xs xs' ys : List Node) (a : Result (Unit {0}) Refusal) → k' ≡ k → bs' ≡ bs → xs' ≡ xs → Grows k' bs' l p q xs' ys a → Grows k bs l p q xs ys a
+carried k k' bs bs' l p q xs xs' ys a e f h g =
+    subst (λ j. Grows j bs l p q xs ys a) e (subst (λ t. Grows k' t l p q xs ys a) f (subst (λ ns. Grows k' bs' l p q ns ys a) h g))
 
 module _ (k : ℕ) (bs : List ℕ) (l : ℕ) (p q : Progress) (xs : List Node) (x : Node) (tk : Taken k bs l (length xs) p q x) (deep : l ≤ 16) where
   -- the verdict behind the sign

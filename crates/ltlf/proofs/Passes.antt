@@ -1,12 +1,10 @@
 -- A pass over the nodes from the last to the first: what the row holds while it goes on.
-use Rattle.std.proofs.Common.{◌≡◌, ℕ, zero, suc, ◌+◌, ◌-◌, ◌<◌, ◌≤◌, min, Bool, true, false, ◌&&◌, ltb, List, [], ◌∷◌, ◌++◌, length, get_or, take, drop, set, replicate, sym, refl, ap, ◌∙◌, subst, arith, drop-cons}
-use Rattle.std.proofs.lemmas.List.{length-replicate, length-set, length-take, replicate-append-replicate, get_or-append_right, get_or-take, set_at, drop_all}
+use Rattle.std.proofs.Common.{◌≡◌, ℕ, zero, suc, ◌+◌, ◌-◌, ◌<◌, ◌≤◌, min, Bool, true, false, ◌&&◌, ltb, List, [], ◌∷◌, ◌++◌, length, get_or, take, drop, set, replicate, sym, refl, ap, ◌∙◌, arith, length-append, drop-cons}
+use Rattle.std.proofs.lemmas.List.{length-replicate, length-set, length-take, replicate-append-replicate, get_or-append_right, get_or-take, set_at, take-take, drop_all}
 use Rattle.std.proofs.lemmas.Bool.{ltb-true}
+use Rattle.std.proofs.Math.Seq.{take-append_seam, get_or-append_seam}
 use Rattle.ltlf.specs.declared.node.Node.{Node}
-use Rattle.ltlf.specs.Rows.{operand_bit, bit_behind, bits_from, row_by}
-
-abbrev pub Rule : Type 0
-Rule = ℕ → (ℕ → Bool) → Node → Bool
+use Rattle.ltlf.specs.Rows.{Rule, operand_bit, bit_behind, bits_from, row_by}
 
 -- false bits at the end make no difference
 none_there : (m k : ℕ) → get_or (replicate m false) k false ≡ false
@@ -70,10 +68,9 @@ module _ (rule : Rule) (nodes : List Node) where
       ∙ ap (λ b. replicate n false ++ (b ∷ tail)) (w ∙ ap (λ f. rule n f (get_or xs n d)) at)
       ∙ sym (ap (λ l. replicate n false ++ (bits_from rule n l ++ replicate m false)) (drop-cons xs n d h))
 
-  pub turn : (n : ℕ) (here : List Bool) (v : Bool) (d : Node) → 0 < n → n ≤ min 64 (length nodes) → Working here n → v ≡ rule (n - 1) (operand_bit (n - 1) here) (get_or nodes (n - 1) d) → Working (set here (n - 1) v) (n - 1)
-  turn n here v d p l w e =
-      let back : n ≡ suc (n - 1) = omega arith in
-      let whole = turn_at (n - 1) here v d (omega (arith, length-take 64 nodes)) (subst (λ k. here ≡ partly rule (take 64 nodes) k) back w.1) (e ∙ ap (rule (n - 1) (operand_bit (n - 1) here)) (sym (get_or-take 64 nodes (n - 1) d (omega arith)))) in
+  pub turn : (n : ℕ) (here : List Bool) (v : Bool) (d : Node) → n < min 64 (length nodes) → Working here (suc n) → v ≡ rule n (operand_bit n here) (get_or nodes n d) → Working (set here n v) n
+  turn n here v d l w e =
+      let whole = turn_at n here v d (omega (arith, length-take 64 nodes)) w.1 (e ∙ ap (rule n (operand_bit n here)) (sym (get_or-take 64 nodes n d (omega arith)))) in
       (simp length-set w.0, whole)
 
   pub ends : (n : ℕ) (here : List Bool) → n ≤ 0 → Working here n → here ≡ row_by rule nodes
@@ -81,3 +78,13 @@ module _ (rule : Rule) (nodes : List Node) where
   ends n here l w =
       let none : n ≡ 0 = omega arith in
       w.1 ∙ ap (partly rule (take 64 nodes)) none ∙ ap (λ k. bits_from rule 0 (take 64 nodes) ++ replicate (64 - k) false) (sym (length_bits rule 0 (take 64 nodes)))
+
+-- the nodes that are left are the first ones, and one fewer are too
+pub one_fewer : (nodes left fewer : List Node) (x : Node) → left ≡ fewer ++ (x ∷ []) → left ≡ take (length left) nodes → (fewer ≡ take (length fewer) nodes) × (length left ≡ suc (length fewer)) × ((d : Node) → x ≡ get_or nodes (length fewer) d)
+one_fewer nodes left fewer x e t =
+    let n = length fewer in
+    let more : length left ≡ suc n = omega (arith, ap length e, length-append fewer (x ∷ [])) in (
+      sym (take-append_seam fewer (x ∷ [])) ∙ ap (take n) (sym e ∙ t) ∙ take-take n (length left) nodes (omega (arith, more)),
+      more,
+      λ d. sym (get_or-append_seam fewer x [] d) ∙ ap (λ l. get_or l n d) (sym e ∙ t) ∙ get_or-take (length left) nodes n d (omega (arith, more)),
+    )

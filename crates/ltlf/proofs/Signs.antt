@@ -9,7 +9,7 @@ use Rattle.ltlf.specs.declared.node.Node.{Node}
 use Rattle.ltlf.specs.declared.reader.Progress.{Progress}
 use Rattle.ltlf.specs.Prefix.{sign_node, node_of, strip, beyond, limit, fault_of, after, judge, owing, operands_of}
 use Rattle.ltlf.specs.Steps.{Skipped, Taken, seen, next_verdict}
-use Rattle.ltlf.proofs.Judging.{sign_text, sign_refused, sign_taken, text_ends}
+use Rattle.ltlf.proofs.Judging.{sign_text, sign_refused, sign_taken}
 
 -- a sign that breaks no limit
 pub record Allowed (k n t d : ℕ) (x : Node) : Type 0 where
@@ -35,9 +35,6 @@ unfolding node_of
 of_byte b n o e = ap (sign_node b) (sym (add-one n)) ∙ sym e
 
 module _ (k : ℕ) (bs : List ℕ) (l n : ℕ) (p : Progress) (i : ℕ) (sk : Skipped bs p.at i) where
-  pub text_ended : length bs ≤ i → (ds : List ℕ) → next_verdict k bs l n p ds ≡ Err (refused cause.Incomplete i)
-  text_ended h ds = sk.same_verdict k (seen p n ((17 - l) ∷ ds)) ∙ text_ends bs i h k (seen p n ((17 - l) ∷ ds))
-
   module _ (lt : i < length bs) where
     pub unknown : node_of (get_or bs i 0) (suc n) ≡ None → (ds : List ℕ) → next_verdict k bs l n p ds ≡ Err (refused cause.UnknownByte i)
     unknown e ds =
@@ -49,8 +46,8 @@ module _ (k : ℕ) (bs : List ℕ) (l n : ℕ) (p : Progress) (i : ℕ) (sk : Sk
         let s = seen p n ((17 - l) ∷ ds) in
         sk.same_verdict k s ∙ sign_refused bs i lt (sk.stops lt) k s w (ap (fault_of k s) e ∙ b)
 
-    pub takes : (x : Node) (q : Progress) → node_of (get_or bs i 0) (suc n) ≡ Some x → limit k n p.temporals (17 - l) x ≡ None → p.temporals ≤ 7 → l ≤ 16 → q.at ≡ i + 1 → q.temporals ≡ p.temporals + cond (temporal x) 1 0 → Taken k bs l n p q x
-    takes x q e b few deep at count =
+    pub takes : (x : Node) (q : Progress) → node_of (get_or bs i 0) (suc n) ≡ Some x → limit k n p.temporals (17 - l) x ≡ None → p.temporals ≤ 7 → q.at ≡ i + 1 → q.temporals ≡ p.temporals + cond (temporal x) 1 0 → Taken k bs l n p q x
+    takes x q e b few at count =
         let a = allowed k n p.temporals (17 - l) x b in
         record {
           some_level = omega (arith, a.shallow);

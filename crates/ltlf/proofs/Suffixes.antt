@@ -1,7 +1,6 @@
 -- The rows of the passes are rows of truths.
-use Rattle.std.proofs.Common.{◌≡◌, ℕ, zero, suc, ◌+◌, ◌-◌, ◌<◌, ◌≤◌, min, Bool, true, false, cond, not, ◌&&◌, ◌||◌, eqb, ltb, List, [], ◌∷◌, map, length, get_or, take, drop, replicate, sym, refl, ap, ◌∙◌, ap₂, ⊎_elim, arith}
-use Rattle.std.proofs.lemmas.List.{drop_all, drop_more, length-append, length-map, length-replicate, length-take}
-use Rattle.std.proofs.lemmas.Bool.{ltb-true, eq-eqb, ne_eqb, cases_eq}
+use Rattle.std.proofs.Common.{◌≡◌, ℕ, zero, suc, ◌-◌, ◌≤◌, Bool, true, false, cond, not, ◌&&◌, ◌||◌, ltb, List, [], ◌∷◌, map, length, get_or, take, sym, refl, ap, ◌∙◌, ap₂, arith}
+use Rattle.std.proofs.lemmas.Bool.{ltb-true}
 use Rattle.ltlf.specs.declared.node.Node.{Node}
 use Rattle.ltlf.specs.declared.node.Node.TheVariants as node
 use Rattle.ltlf.specs.Formula.{Formula, letter}
@@ -143,40 +142,7 @@ pub row_step : (xs : List Node) (a : ℕ) (w : List ℕ) → row_by (before_rule
 unfolding row_by truths keeps
 row_step xs a w = ap padded (step_bits a w _ 0 (take 64 xs) (from_padded (map (kept w) (formulas 0 (take 64 xs)))))
 
-length_formulas : (n : ℕ) (xs : List Node) → length (formulas n xs) ≡ length xs
-length_formulas n [] = refl
-length_formulas n (x ∷ xs) = ap suc (length_formulas (suc n) xs)
-
--- a row has 64 bits
-length_row : (h : Formula → Bool) (xs : List Node) → length (padded (map h (formulas 0 (take 64 xs)))) ≡ 64
-length_row h xs =
-    let bits = map h (formulas 0 (take 64 xs)) in
-    let long : length bits ≡ min 64 (length xs) = length-map (formulas 0 (take 64 xs)) h ∙ length_formulas 0 (take 64 xs) ∙ length-take 64 xs in
-    omega (arith, long, length-append bits (replicate (64 - length bits) false), length-replicate (64 - length bits) false)
-
-pub length_truths : (xs : List Node) (w : List ℕ) → length (truths xs w) ≡ 64
-unfolding truths
-length_truths xs w = length_row (true_on w) xs
-
-pub length_keeps : (xs : List Node) (w : List ℕ) → length (keeps xs w) ≡ 64
-unfolding keeps
-length_keeps xs w = length_row (kept w) xs
-
 -- the first bit is the truth of the whole formula
 pub row_first : (xs : List Node) (w : List ℕ) → get_or (truths xs w) 0 false ≡ satisfied (formula_of (take 64 xs)) w
 unfolding truths
 row_first xs w = get_or_padded (map (true_on w) (formulas 0 (take 64 xs))) _ 0 ∙ get_or_truths w (formulas 0 (take 64 xs)) 0
-
--- a suffix is empty at the trace's end
-pub empty_drop : (t : List ℕ) (i : ℕ) → i ≤ length t → eqb i (length t) ≡ empty (drop i t)
-empty_drop t i l =
-    ⊎_elim
-    (λ e. eq-eqb i (length t) e ∙ sym (ap empty (drop_all i t (omega arith))))
-    (λ n. ne_eqb i (length t) n ∙ sym (ap empty (drop_more t i 0 (omega arith))))
-    (cases_eq i (length t))
-
--- the suffix from the place before i
-pub drop_before : (t : List ℕ) (i : ℕ) → 0 < i → i ≤ length t → drop (i - 1) t ≡ get_or t (i - 1) 0 ∷ drop i t
-drop_before t i p l =
-    let back : i - 1 + 1 ≡ i = omega arith in
-    drop_more t (i - 1) 0 (omega arith) ∙ ap (λ k. get_or t (i - 1) 0 ∷ drop k t) back

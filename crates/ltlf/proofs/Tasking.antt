@@ -1,8 +1,7 @@
 -- From the reading of a text to the task that it leaves.
-use Rattle.std.proofs.Common.{◌≡◌, ℕ, ◌≤◌, true, false, cond, leb, List, [], length, is_ok, Ok, Err, Result, sym, refl, ap, ◌∙◌, inl, inr, ⊎_elim, arith}
-use Rattle.std.proofs.lemmas.Bool.{true≢false, leb-true, and_parts}
+use Rattle.std.proofs.Common.{◌≡◌, ℕ, ◌≤◌, true, cond, leb, List, length, Ok, Err, sym, refl, ap, ◌∙◌, arith}
+use Rattle.std.proofs.lemmas.Bool.{leb-true, and_parts}
 use Rattle.wire.specs.declared.refusal.Cause.TheVariants as cause
-use Rattle.wire.specs.declared.refusal.Refusal.{Refusal}
 use Rattle.wire.specs.Refusals.{refused}
 use Rattle.ltlf.specs.declared.node.Node.{Node}
 use Rattle.ltlf.specs.Nodes.{formula_of, temporal_nodes}
@@ -10,9 +9,6 @@ use Rattle.ltlf.specs.Prefix.{judge, start, in_range, verdict, Read}
 use Rattle.ltlf.specs.Steps.{Whole}
 use Rattle.ltlf.proofs.Back.{formula_back}
 use Rattle.ltlf.proofs.Forms.{length_flat, temporal_flat}
-
-pub out_of_range : (k : ℕ) (bs : List ℕ) → false ≡ in_range k → verdict k bs ≡ Err (refused cause.ActionsOutOfRange 0)
-out_of_range k bs h = ap (λ a. cond a (judge k start 0 bs) (Err (refused cause.ActionsOutOfRange 0))) (sym h)
 
 module _ (k : ℕ) (bs : List ℕ) (ys : List Node) (within : true ≡ in_range k) where
   in_range_lem : verdict k bs ≡ judge k start 0 bs
@@ -24,9 +20,8 @@ module _ (k : ℕ) (bs : List ℕ) (ys : List Node) (within : true ≡ in_range 
   pub few : k ≤ 16
   few = leb-true k 16 (and_parts (leb 1 k) (leb k 16) (sym within)).1
 
-  pub well_read : (r : Result (Unit {0}) Refusal) → true ≡ is_ok r → Whole k bs ys r → Read k bs r k ys
-  well_read (Err e) t w = absurd (true≢false t)
-  well_read (Ok u) t w =
+  pub well_read : (u : Unit {0}) → Whole k bs ys (Ok u) → Read k bs (Ok u) k ys
+  well_read u w =
       let f = w.1.0 in
       let nodes = w.1.2 in (
         in_range_lem ∙ w.0,
@@ -47,10 +42,5 @@ module _ (k : ℕ) (bs : List ℕ) (ys : List Node) (within : true ≡ in_range 
         ),
       )
 
-  pub mildly_read : (r : Result (Unit {0}) Refusal) → true ≡ is_ok r → Whole k bs ys r → temporal_nodes ys ≤ 7
-  mildly_read (Err e) t w = absurd (true≢false t)
-  mildly_read (Ok u) t w = omega (arith, ap temporal_nodes w.1.2, temporal_flat 0 w.1.0, w.1.6)
-
-  pub ill_read : (r : Result (Unit {0}) Refusal) → false ≡ is_ok r → Whole k bs ys r → (actions : ℕ) (zs : List Node) → actions ≡ 0 → zs ≡ [] → Read k bs r actions zs
-  ill_read (Ok u) t w actions zs a z = absurd (true≢false (sym t))
-  ill_read (Err e) t w actions zs a z = (⊎_elim (λ h. inl (in_range_lem ∙ h)) (λ m. inr (m, sym within)) w, a, z)
+pub mildly_read : (k : ℕ) (bs : List ℕ) (ys : List Node) (u : Unit {0}) → Whole k bs ys (Ok u) → temporal_nodes ys ≤ 7
+mildly_read k bs ys u w = omega (arith, ap temporal_nodes w.1.2, temporal_flat 0 w.1.0, w.1.6)

@@ -1,5 +1,6 @@
 -- Rows: one bit for each node of a task, worked out from the last node to the first.
-use Rattle.std.specs.Prelude.{ℕ, suc, ◌-◌, Bool, true, false, not, ◌&&◌, ◌||◌, List, [], ◌∷◌, ◌++◌, map, length, take, replicate, ◌==◌, nat_lt, slice_index_or}
+use Rattle.std.specs.Prelude.{◌≡◌, ℕ, suc, ◌-◌, ◌<◌, Bool, true, false, not, ◌&&◌, ◌||◌, List, [], ◌∷◌, ◌++◌, map, length, take, replicate, ◌==◌, nat_lt, slice_index_or}
+use Rattle.std.specs.Borrow.{Bor}
 use Rattle.ltlf.specs.declared.node.Node.{Node}
 use Rattle.ltlf.specs.declared.node.Node.TheVariants as node
 use Rattle.ltlf.specs.Nodes.{formulas}
@@ -56,8 +57,12 @@ truth_before here x pending (node.Release i j) = here j && (here i || pending)
 abbrev pub bit_behind : ℕ → List Bool → ℕ → Bool
 bit_behind n bits i = nat_lt n i && slice_index_or bits (i - suc n) false
 
--- the bits of nodes, the first of which has number n, from a rule that has the node's number and the bits behind it
-abbrev pub bits_from : (ℕ → (ℕ → Bool) → Node → Bool) → ℕ → List Node → List Bool
+-- the bit of a node, from its number, the bits behind it and the node
+abbrev pub Rule : Type 0
+Rule = ℕ → (ℕ → Bool) → Node → Bool
+
+-- the bits of nodes by a rule, the first of which has number n
+abbrev pub bits_from : Rule → ℕ → List Node → List Bool
 bits_from rule n [] = []
 bits_from rule n (x ∷ xs) = rule n (bit_behind n (bits_from rule (suc n) xs)) x ∷ bits_from rule (suc n) xs
 
@@ -66,17 +71,25 @@ abbrev pub padded : List Bool → List Bool
 padded bits = bits ++ replicate (64 - length bits) false
 
 -- the row of nodes by a rule; nodes past the 64th have no place in it
-unfoldable pub row_by : (ℕ → (ℕ → Bool) → Node → Bool) → List Node → List Bool
+unfoldable pub row_by : Rule → List Node → List Bool
 row_by rule xs = padded (bits_from rule 0 (take 64 xs))
 
+-- a closure may be called at each node that has a place in a row
+abbrev pub TakesNodes : (ℕ → Node → Bor (List Bool) → Type 0) → Type 0
+TakesNodes pre = (n : ℕ) (x : Node) (row : Bor (List Bool)) → n < 64 → pre n x row
+
+-- and what it returns there is the rule's bit, by the bits of the row
+abbrev pub Computes : (ℕ → Node → Bor (List Bool) → Bool → Type 0) → Rule → Type 0
+Computes post rule = (n : ℕ) (x : Node) (row : Bor (List Bool)) (b : Bool) → n < 64 → post n x row b → b ≡ rule n (operand_bit n row.now) x
+
 -- the rules of the three passes
-abbrev pub end_rule : ℕ → (ℕ → Bool) → Node → Bool
+abbrev pub end_rule : Rule
 end_rule n here x = truth_at_end here x
 
-abbrev pub pending_rule : List Bool → Bool → ℕ → (ℕ → Bool) → Node → Bool
+abbrev pub pending_rule : List Bool → Bool → Rule
 pending_rule row ended n behind x = pending_on (operand_bit n row) (slice_index_or row n false) ended x
 
-abbrev pub before_rule : ℕ → List Bool → ℕ → (ℕ → Bool) → Node → Bool
+abbrev pub before_rule : ℕ → List Bool → Rule
 before_rule action pending n here x = truth_before here action (slice_index_or pending n false) x
 
 -- the row that has the truth of each node's formula on the suffix w, and the row of what each keeps of w

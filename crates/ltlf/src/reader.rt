@@ -1,5 +1,5 @@
 // Reads a task from its prefix text.
-ghost use Rattle.std.specs.Prelude.{◌≡◌, ◌-◌, ◌<◌, ◌≤◌, [], length, vec_len};
+ghost use Rattle.std.specs.Prelude.{◌≡◌, ◌-◌, ◌≤◌, [], length, vec_len};
 ghost use Rattle.ltlf.specs.Nodes.{temporal};
 ghost use Rattle.ltlf.specs.Prefix.{sign_node, beyond, blank, operands_of, limit, in_range, Read, TextLaw};
 ghost use Rattle.ltlf.specs.Steps.{with_second, Skipped, Takes, Grows, Whole};
@@ -19,6 +19,16 @@ const MAX_TEMPORALS: u8 = 7;
 struct Progress {
     at: usize,
     temporals: u8,
+}
+
+// A text that is read for so many actions, and how far the reading has come.
+#[derive(Drop)]
+struct Parser<'t> {
+    text: &'t [u8],
+    actions: u8,
+    progress: Progress,
+    ghost within: { progress.at ≤ length text.now },
+    ghost few_temporals: { progress.temporals ≤ 7 },
 }
 
 // How many operands a sign takes.
@@ -44,7 +54,7 @@ fn node_of(sign: char, first: u8) -> Option<Node>
         '>' => Some(Node::Implies(first, 0)),
         'U' => Some(Node::Until(first, 0)),
         'R' => Some(Node::Release(first, 0)),
-        'a'..='z' => Some(Node::Action((sign as u32 - 97) as u8)),
+        'a'..='z' => Some(Node::Action(sign as u8 - b'a')),
         _ => None,
     }
 }
@@ -78,116 +88,105 @@ fn operands_of(node: Node) -> Operands
 fn is_temporal(node: Node) -> bool
     ensures { result ≡ temporal node }
 {
-    match node {
-        Node::Next(_) | Node::WeakNext(_) | Node::Eventually(_) | Node::Always(_) => true,
-        Node::Until(_, _) | Node::Release(_, _) => true,
-        _ => false,
-    }
+    matches!(
+        node,
+        Node::Next(_)
+            | Node::WeakNext(_)
+            | Node::Eventually(_)
+            | Node::Always(_)
+            | Node::Until(_, _)
+            | Node::Release(_, _)
+    )
 }
 
 // Whether it is a letter that is none of the actions.
 fn is_beyond(node: Node, actions: u8) -> bool
     ensures { result ≡ beyond actions node }
 {
-    match node {
-        Node::Action(a) => a >= actions,
-        _ => false,
-    }
+    matches!(node, Node::Action(a) if a >= actions)
 }
 
 // Blanks and line ends are passed over.
 fn is_blank(byte: u8) -> bool
     ensures { result ≡ blank byte }
 {
-    byte == b' ' || byte == b'\n'
+    matches!(byte, b' ' | b'\n')
 }
 
-// The place of the first byte from `from` on that is no blank, or the length.
-fn skip_blanks(text: &[u8], from: usize) -> usize
-    requires { from ≤ length text.now }
-    ensures { Skipped text.now from result }
-{
-    let mut at = from;
-    while at < text.len() {
-        if !is_blank(text[at]) {
-            return at;
+impl<'t> Parser<'t> {
+    // The place of the first byte from the next one on that is no blank, or the length.
+    fn past_blanks(&self) -> usize
+        ensures { Skipped self.now.text.now self.now.progress.at result }
+    {
+        let blanks = self.text[self.progress.at..]
+            .iter()
+            .take_while(|byte| is_blank(**byte));
+        self.progress.at + blanks.count()
+    }
+
+    // The first limit that a sign or letter breaks, with `levels` left to it, behind `count` others.
+    fn broken_limit(&self, node: Node, levels: u8, count: usize) -> Option<Cause>
+        ensures { result ≡ limit self.now.actions count self.now.progress.temporals (17 - levels) node }
+    {
+        if is_beyond(node, self.actions) {
+            return Some(Cause::LetterOutOfRange);
         }
-        at += 1;
+        if count >= MAX_SIGNS {
+            return Some(Cause::TooManySigns);
+        }
+        if levels == 0 {
+            return Some(Cause::TooDeep);
+        }
+        if is_temporal(node) && self.progress.temporals >= MAX_TEMPORALS {
+            return Some(Cause::TooManyTemporal);
+        }
+        None
     }
-    at
-}
 
-// The first limit that a sign or letter breaks, with `levels` left to it, behind `count` others.
-fn broken_limit(node: Node, actions: u8, levels: u8, count: usize, temporals: u8) -> Option<Cause>
-    requires { levels ≤ 16 }
-    ensures { result ≡ limit actions count temporals (17 - levels) node }
-{
-    if is_beyond(node, actions) {
-        return Some(Cause::LetterOutOfRange);
+    // Takes the next sign or letter, as number `count`, with `levels` left to it, if every limit allows it.
+    fn take_sign(&mut self, levels: u8, count: usize) -> Result<Node, Refusal>
+        requires { count ≤ 64 }
+        ensures takes { Takes self.old.actions self.old.text.now levels count self.old.progress self.new.progress result }
+        ensures same_text { self.new.text.now ≡ self.old.text.now }
+        ensures same_actions { self.new.actions ≡ self.old.actions }
+    {
+        let at = self.past_blanks();
+        let Some(byte) = self.text.get(at) else {
+            return Err(Cause::Incomplete.at(at));
+        };
+        let Some(node) = node_of(char::from(*byte), count as u8 + 1) else {
+            return Err(Cause::UnknownByte.at(at));
+        };
+        if let Some(cause) = self.broken_limit(node, levels, count) {
+            return Err(cause.at(at));
+        }
+        self.progress = Progress {
+            at: at + 1,
+            temporals: self.progress.temporals + u8::from(is_temporal(node)),
+        };
+        Ok(node)
     }
-    if count >= MAX_SIGNS {
-        return Some(Cause::TooManySigns);
-    }
-    if levels == 0 {
-        return Some(Cause::TooDeep);
-    }
-    if is_temporal(node) && temporals >= MAX_TEMPORALS {
-        return Some(Cause::TooManyTemporal);
-    }
-    None
-}
 
-// Takes the next sign or letter, as number `count`, if every limit allows it.
-fn take_sign(
-    text: &[u8],
-    actions: u8,
-    levels: u8,
-    count: usize,
-    progress: &mut Progress,
-) -> Result<Node, Refusal>
-    requires { (progress.old.at ≤ length text.now) × ((levels ≤ 16) × ((count ≤ 64) × (progress.old.temporals ≤ 7))) }
-    ensures { Takes actions text.now levels count progress.old progress.new result }
-{
-    let at = skip_blanks(text, progress.at);
-    if at >= text.len() {
-        return Err(Cause::Incomplete.at(at));
-    }
-    let Some(node) = node_of(text[at] as char, count as u8 + 1) else {
-        return Err(Cause::UnknownByte.at(at));
-    };
-    if let Some(cause) = broken_limit(node, actions, levels, count, progress.temporals) {
-        return Err(cause.at(at));
-    }
-    if is_temporal(node) {
-        progress.temporals += 1;
-    }
-    progress.at = at + 1;
-    Ok(node)
-}
-
-// Reads one formula, at most `levels` deep, behind the nodes that are there.
-fn read_formula(
-    text: &[u8],
-    actions: u8,
-    levels: u8,
-    progress: &mut Progress,
-    nodes: &mut Vec<Node>,
-) -> Result<(), Refusal>
-    requires { (progress.old.at ≤ length text.now) × ((levels ≤ 16) × ((vec_len nodes.old ≤ 64) × (progress.old.temporals ≤ 7))) }
-    ensures grows { Grows actions text.now levels progress.old progress.new nodes.old.items nodes.new.items result }
-    ensures few { vec_len nodes.new ≤ 64 }
-{
-    let top = nodes.len();
-    let node = take_sign(text, actions, levels, top, progress)?;
-    nodes.push(node)?;
-    match operands_of(node) {
-        Operands::Zero => Ok(()),
-        Operands::One => read_formula(text, actions, levels - 1, progress, nodes),
-        Operands::Two => {
-            read_formula(text, actions, levels - 1, progress, nodes)?;
-            let second = nodes.len() as u8;
-            nodes[top] = with_second(node, second);
-            read_formula(text, actions, levels - 1, progress, nodes)
+    // Reads one formula, at most `levels` deep, behind the nodes that are there.
+    fn formula(&mut self, levels: u8, nodes: &mut Vec<Node>) -> Result<(), Refusal>
+        requires { (levels ≤ 16) × (vec_len nodes.old ≤ 64) }
+        ensures grows { Grows self.old.actions self.old.text.now levels self.old.progress self.new.progress nodes.old.items nodes.new.items result }
+        ensures few { vec_len nodes.new ≤ 64 }
+        ensures same_text { self.new.text.now ≡ self.old.text.now }
+        ensures same_actions { self.new.actions ≡ self.old.actions }
+    {
+        let top = nodes.len();
+        let node = self.take_sign(levels, top)?;
+        nodes.push(node)?;
+        match operands_of(node) {
+            Operands::Zero => Ok(()),
+            Operands::One => self.formula(levels - 1, nodes),
+            Operands::Two => {
+                self.formula(levels - 1, nodes)?;
+                let second = nodes.len() as u8;
+                nodes[top] = with_second(node, second);
+                self.formula(levels - 1, nodes)
+            }
         }
     }
 }
@@ -198,26 +197,30 @@ fn read_whole(text: &[u8], actions: u8, nodes: &mut Vec<Node>) -> Result<(), Ref
     ensures whole { Whole actions text.now nodes.new.items result }
     ensures few { vec_len nodes.new ≤ 64 }
 {
-    let mut progress = Progress {
-        at: 0,
-        temporals: 0,
+    let mut parser = Parser {
+        text,
+        actions,
+        progress: Progress {
+            at: 0,
+            temporals: 0,
+        },
     };
-    read_formula(text, actions, MAX_LEVELS, &mut progress, nodes)?;
-    let at = skip_blanks(text, progress.at);
-    if at < text.len() {
-        return match node_of(text[at] as char, nodes.len() as u8 + 1) {
-            None => Err(Cause::UnknownByte.at(at)),
-            Some(_) => Err(Cause::FormulaComplete.at(at)),
-        };
+    parser.formula(MAX_LEVELS, nodes)?;
+    let at = parser.past_blanks();
+    let Some(byte) = text.get(at) else {
+        return Ok(());
+    };
+    match node_of(char::from(*byte), nodes.len() as u8 + 1) {
+        None => Err(Cause::UnknownByte.at(at)),
+        Some(_) => Err(Cause::FormulaComplete.at(at)),
     }
-    Ok(())
 }
 
 // Whether a task may have so many actions.
 fn in_range(actions: u8) -> bool
     ensures { result ≡ in_range actions }
 {
-    actions >= 1 && actions <= MAX_ACTIONS
+    (1..=MAX_ACTIONS).contains(&actions)
 }
 
 // Reads the task that `text` holds, for so many actions; after a refusal `out` is the zero task.
@@ -230,11 +233,14 @@ pub fn read_task(actions: u8, text: &[u8], out: &mut Task) -> Result<(), Refusal
     if !in_range(actions) {
         return Err(Cause::ActionsOutOfRange.at(0));
     }
-    let r = read_whole(text, actions, &mut out.nodes);
-    if r.is_ok() {
-        out.actions = actions;
-    } else {
-        out.nodes.clear();
+    match read_whole(text, actions, &mut out.nodes) {
+        Ok(()) => {
+            out.actions = actions;
+            Ok(())
+        }
+        Err(refusal) => {
+            out.nodes.clear();
+            Err(refusal)
+        }
     }
-    r
 }

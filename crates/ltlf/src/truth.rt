@@ -1,8 +1,8 @@
 // Whether a trace satisfies a task, in time proportional to the nodes times the trace's length.
 // The truth of every node is known on a suffix of the trace; actions are put in front of it, the last one first.
-ghost use Rattle.std.specs.Prelude.{◌≡◌, ℕ, min, List, [], ◌∷◌, length, Decides};
+ghost use Rattle.std.specs.Prelude.{◌≡◌, ℕ, List, [], ◌∷◌, Decides};
 ghost use Rattle.ltlf.specs.Meaning.{Satisfies};
-ghost use Rattle.ltlf.specs.Rows.{operand_bit, truth_at_end, pending_on, truth_before, row_by, end_rule, pending_rule, before_rule, truths, keeps};
+ghost use Rattle.ltlf.specs.Rows.{operand_bit, truth_at_end, pending_on, truth_before, Rule, TakesNodes, Computes, row_by, end_rule, pending_rule, before_rule, truths, keeps};
 ghost use Rattle.ltlf.specs.Suffix.{empty, BySuffix};
 ghost use Rattle.ltlf.specs.Tasks.{task_formula};
 ghost use Rattle.ltlf.specs.Truth.{satisfied};
@@ -18,27 +18,26 @@ fn operand(row: &[bool], n: usize, i: u8) -> bool
     ensures { result ≡ operand_bit n row.now i }
 {
     let at = usize::from(i);
-    if n < at && at < row.len() {
-        row[at]
-    } else {
-        false
-    }
+    n < at && row.get(at).copied().unwrap_or(false)
 }
+
+// A node and its number stay two parameters in these rules, as the closures of `row_by` are given them.
 
 // The truth of node `n` on the empty trace, from the truth of the nodes behind it.
 fn truth_at_end(node: Node, n: usize, here: &[bool]) -> bool
     ensures { result ≡ truth_at_end (operand_bit n here.now) node }
 {
+    let here = |i| operand(here, n, i);
     match node {
         Node::Action(_) => false,
-        Node::Not(f) => !operand(here, n, f),
+        Node::Not(f) => !here(f),
         Node::Next(_) => false,
         Node::WeakNext(_) => true,
         Node::Eventually(_) => false,
         Node::Always(_) => true,
-        Node::And(f, g) => operand(here, n, f) && operand(here, n, g),
-        Node::Or(f, g) => operand(here, n, f) || operand(here, n, g),
-        Node::Implies(f, g) => !operand(here, n, f) || operand(here, n, g),
+        Node::And(f, g) => here(f) && here(g),
+        Node::Or(f, g) => here(f) || here(g),
+        Node::Implies(f, g) => !here(f) || here(g),
         Node::Until(_, _) => false,
         Node::Release(_, _) => true,
     }
@@ -48,9 +47,10 @@ fn truth_at_end(node: Node, n: usize, here: &[bool]) -> bool
 fn pending_on(node: Node, n: usize, row: &[bool], own: bool, ended: bool) -> bool
     ensures { result ≡ pending_on (operand_bit n row.now) own ended node }
 {
+    let there = |i| operand(row, n, i);
     match node {
-        Node::Next(f) => !ended && operand(row, n, f),
-        Node::WeakNext(f) => ended || operand(row, n, f),
+        Node::Next(f) => !ended && there(f),
+        Node::WeakNext(f) => ended || there(f),
         Node::Eventually(_) | Node::Always(_) | Node::Until(_, _) | Node::Release(_, _) => own,
         Node::Action(_) | Node::Not(_) => false,
         Node::And(_, _) | Node::Or(_, _) | Node::Implies(_, _) => false,
@@ -61,29 +61,32 @@ fn pending_on(node: Node, n: usize, row: &[bool], own: bool, ended: bool) -> boo
 fn truth_before(node: Node, n: usize, action: u8, pending: bool, here: &[bool]) -> bool
     ensures { result ≡ truth_before (operand_bit n here.now) action pending node }
 {
+    let here = |i| operand(here, n, i);
     match node {
         Node::Action(a) => action == a,
-        Node::Not(f) => !operand(here, n, f),
+        Node::Not(f) => !here(f),
         Node::Next(_) | Node::WeakNext(_) => pending,
-        Node::Eventually(f) => operand(here, n, f) || pending,
-        Node::Always(f) => operand(here, n, f) && pending,
-        Node::And(f, g) => operand(here, n, f) && operand(here, n, g),
-        Node::Or(f, g) => operand(here, n, f) || operand(here, n, g),
-        Node::Implies(f, g) => !operand(here, n, f) || operand(here, n, g),
-        Node::Until(f, g) => operand(here, n, g) || (operand(here, n, f) && pending),
-        Node::Release(f, g) => operand(here, n, g) && (operand(here, n, f) || pending),
+        Node::Eventually(f) => here(f) || pending,
+        Node::Always(f) => here(f) && pending,
+        Node::And(f, g) => here(f) && here(g),
+        Node::Or(f, g) => here(f) || here(g),
+        Node::Implies(f, g) => !here(f) || here(g),
+        Node::Until(f, g) => here(g) || (here(f) && pending),
+        Node::Release(f, g) => here(g) && (here(f) || pending),
     }
 }
 
-// How many nodes have a place in a row.
-fn counted(nodes: &[Node]) -> usize
-    ensures { result ≡ min 64 (length nodes.now) }
+// The bit of every node by `rule`, which has the node's number, the node and the row of the nodes behind it.
+fn row_by<F: Fn(usize, Node, &Row) -> bool>(nodes: &[Node], rule: F) -> Row
+    requires { TakesNodes (F.pre rule) }
+    ensures { (r : Rule) → Computes (F.post rule) r → result ≡ row_by r nodes.now }
 {
-    if nodes.len() < MAX_SIGNS {
-        nodes.len()
-    } else {
-        MAX_SIGNS
+    let mut row = [false; MAX_SIGNS];
+    let counted = &nodes[..nodes.len().min(MAX_SIGNS)];
+    for (n, node) in counted.iter().enumerate().rev() {
+        row[n] = rule(n, *node, &row);
     }
+    row
 }
 
 // The truth of every node on the empty trace.
@@ -91,11 +94,7 @@ pub fn end_row(nodes: &[Node]) -> Row
     ensures value { result ≡ row_by end_rule nodes.now }
     ensures means { result ≡ truths nodes.now [] }
 {
-    let mut here = [false; MAX_SIGNS];
-    for n in (0..counted(nodes)).rev() {
-        here[n] = truth_at_end(nodes[n], n, &here);
-    }
-    here
+    row_by(nodes, |n, node, here| truth_at_end(node, n, here))
 }
 
 // What every node keeps of a suffix whose row is `row`.
@@ -103,11 +102,7 @@ pub fn pending_row(nodes: &[Node], row: &Row, ended: bool) -> Row
     ensures value { result ≡ row_by (pending_rule row.now ended) nodes.now }
     ensures means { (w : List ℕ) → row.now ≡ truths nodes.now w → ended ≡ empty w → result ≡ keeps nodes.now w }
 {
-    let mut pending = [false; MAX_SIGNS];
-    for n in (0..counted(nodes)).rev() {
-        pending[n] = pending_on(nodes[n], n, row, row[n], ended);
-    }
-    pending
+    row_by(nodes, |n, node, _| pending_on(node, n, row, row[n], ended))
 }
 
 // The truth of every node with `action` in front of a suffix of which the nodes kept `pending`.
@@ -115,11 +110,10 @@ pub fn row_before(nodes: &[Node], action: u8, pending: &Row) -> Row
     ensures value { result ≡ row_by (before_rule action pending.now) nodes.now }
     ensures means { (w : List ℕ) → pending.now ≡ keeps nodes.now w → result ≡ truths nodes.now (action ∷ w) }
 {
-    let mut here = [false; MAX_SIGNS];
-    for n in (0..counted(nodes)).rev() {
-        here[n] = truth_before(nodes[n], n, action, pending[n], &here);
-    }
-    here
+    row_by(
+        nodes,
+        |n, node, here| truth_before(node, n, action, pending[n], here),
+    )
 }
 
 // Whether the trace satisfies the task.
@@ -130,9 +124,11 @@ pub fn satisfies(task: &Task, trace: &[u8]) -> bool
 {
     let nodes = task.nodes();
     let mut row = end_row(nodes);
-    for i in (0..trace.len()).rev() {
-        let pending = pending_row(nodes, &row, i + 1 == trace.len());
-        row = row_before(nodes, trace[i], &pending);
+    let mut ended = true;
+    for action in trace.iter().rev() {
+        let pending = pending_row(nodes, &row, ended);
+        row = row_before(nodes, *action, &pending);
+        ended = false;
     }
     row[0]
 }

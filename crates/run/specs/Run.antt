@@ -1,5 +1,5 @@
 -- Runs: what each event answers, and how the record stands after it.
-use Rattle.std.specs.Prelude.{ℕ, ◌+◌, Bool, true, false, cond, not, ◌||◌, List, [], ◌∷◌, ◌++◌, Some, None, Ok, Err, Option, Result, ◌==◌, nat_lt}
+use Rattle.std.specs.Prelude.{ℕ, ◌+◌, Bool, true, false, cond, not, ◌||◌, List, [], ◌∷◌, ◌++◌, Some, None, Ok, Err, Option, Result, ◌==◌, nat_lt, codes}
 use Rattle.wire.specs.declared.refusal.Cause.TheVariants as cause
 use Rattle.wire.specs.declared.refusal.Refusal.{Refusal}
 use Rattle.wire.specs.Refusals.{refused}
@@ -25,6 +25,13 @@ phase_of Idle = phase.Idle
 phase_of (Waiting c) = phase.Waiting
 phase_of Done = phase.Done
 phase_of Abandoned = phase.Abandoned
+
+-- how a phase is written
+abbrev pub phase_word : Phase → List ℕ
+phase_word phase.Idle = codes "idle"
+phase_word phase.Waiting = codes "waiting"
+phase_word phase.Done = codes "done"
+phase_word phase.Abandoned = codes "abandoned"
 
 abbrev pub seen : Record → Look
 seen r = record { number = r.number; position = r.position; count = r.count; phase = phase_of r.state }

@@ -3,7 +3,7 @@ use crate::look::Look;
 use wire::refusal::Refusal;
 
 // Slips stand here by their numbers, so that a slip of another run can be tried too.
-#[derive(Clone, Copy)]
+#[derive(Clone, Copy, PartialEq, Eq, Debug)]
 pub enum Event<'a> {
     Delegate,
     Report { slip: u16, position: u16 },
@@ -13,7 +13,7 @@ pub enum Event<'a> {
     Rehearse { supposed: &'a [u16] },
 }
 
-#[derive(Clone, Copy)]
+#[derive(Clone, Copy, PartialEq, Eq, Debug)]
 pub enum Answer {
     Given { choice: u8, slip: u16 },
     Accepted,

@@ -1,10 +1,11 @@
 // What a run answers when it is looked at.
-ghost use Rattle.std.specs.Prelude.{◌≡◌};
-ghost use Rattle.run.specs.Run.{phase_of, seen};
+ghost use Rattle.std.specs.Prelude.{◌≡◌, Some};
+ghost use Rattle.run.specs.Run.{phase_of, phase_word, seen};
 
 use crate::record::{Record, State};
+use std::fmt;
 
-#[derive(Clone, Copy)]
+#[derive(Clone, Copy, PartialEq, Eq, Debug)]
 pub enum Phase {
     Idle,
     Waiting,
@@ -12,7 +13,7 @@ pub enum Phase {
     Abandoned,
 }
 
-#[derive(Clone, Copy)]
+#[derive(Clone, Copy, PartialEq, Eq, Debug)]
 pub struct Look {
     pub number: u16,
     pub position: u16,
@@ -20,11 +21,11 @@ pub struct Look {
     pub phase: Phase,
 }
 
-impl Phase {
-    // The phase of a state; the choice that is waited on is not told.
-    fn of(state: State) -> Phase
-        ensures { result ≡ phase_of state }
-    {
+// The phase of a state; the choice that is waited on is not told.
+impl From<State> for Phase {
+    ghost from_gives = { λ s p. p ≡ phase_of s };
+
+    fn from(state: State) -> Phase {
         match state {
             State::Idle => Phase::Idle,
             State::Waiting(_) => Phase::Waiting,
@@ -34,15 +35,28 @@ impl Phase {
     }
 }
 
-impl Look {
-    pub(crate) fn at(rec: Record) -> Look
-        ensures { result ≡ seen rec }
-    {
+impl fmt::Display for Phase {
+    ghost output = { λ p. Some (phase_word p) };
+
+    fn fmt<W: fmt::Write>(&self, f: &mut fmt::Formatter<W>) -> fmt::Result {
+        f.write_str(match self {
+            Phase::Idle => "idle",
+            Phase::Waiting => "waiting",
+            Phase::Done => "done",
+            Phase::Abandoned => "abandoned",
+        })
+    }
+}
+
+impl From<Record> for Look {
+    ghost from_gives = { λ r l. l ≡ seen r };
+
+    fn from(rec: Record) -> Look {
         Look {
             number: rec.number,
             position: rec.position,
             count: rec.count,
-            phase: Phase::of(rec.state),
+            phase: Phase::from(rec.state),
         }
     }
 }

@@ -1,15 +1,14 @@
 // The record of a run, and what each event does to it.
 ghost use Rattle.std.specs.Prelude.{◌≡◌, Ok, Err, MatchResult};
-ghost use Rattle.board.specs.Lists.{has};
 ghost use Rattle.board.specs.Table.{find};
-ghost use Rattle.run.specs.Run.{settled, birth, by_row, delegated, kept, reporting, waiving, abandoning, waits, readied, supposing};
+ghost use Rattle.run.specs.Run.{settled, birth, by_row, delegated, kept, reporting, waiving, abandoning, supposing};
 
 use board::board::Board;
 use table::audited::AuditedTable;
 use wire::refusal::{Cause, Refusal};
 
 // Waiting holds the choice that was delegated.
-#[derive(Clone, Copy)]
+#[derive(Clone, Copy, PartialEq, Eq, Debug)]
 pub enum State {
     Idle,
     Waiting(u8),
@@ -17,7 +16,7 @@ pub enum State {
     Abandoned,
 }
 
-#[derive(Clone, Copy)]
+#[derive(Clone, Copy, PartialEq, Eq, Debug)]
 pub struct Record {
     pub number: u16,
     pub position: u16,
@@ -26,46 +25,43 @@ pub struct Record {
 }
 
 // The most reports that a run accepts.
-const MOST: u16 = 1023;
+const MAX_REPORTS: u16 = 1023;
 
 // How a run stands that has reached the position.
 fn settle<B: Board>(board: &B, position: u16) -> State
     ensures { result ≡ settled ((B.arena board.now).done position) }
 {
-    if board.is_done(position as usize) {
+    if board.is_done(usize::from(position)) {
         State::Done
     } else {
         State::Idle
     }
 }
 
-// Whether the position is among the outcomes.
-fn holds(outcomes: &[u16], position: u16) -> bool
-    ensures { result ≡ has position outcomes.now }
-{
-    for outcome in outcomes {
-        if *outcome == position {
-            return true;
-        }
-    }
-    false
+// What a run stands on: a table, and the board that it is for.
+#[derive(Drop)]
+pub(crate) struct Ground<'a, B: Board> {
+    pub(crate) table: &'a AuditedTable,
+    pub(crate) board: &'a B,
 }
 
-// The choice of the position's row; refuses where there is no row, or one that cannot be played.
-fn usable<B: Board>(table: &AuditedTable, board: &B, position: u16) -> Result<u8, Refusal>
-    ensures { result ≡ by_row (B.arena board.now) position (find table.now.rows.items position) }
-{
-    let Some(row) = table.row(position) else {
-        return Err(Cause::NoUsableRow.at(0));
-    };
-    if row.rank == 0
-        || board
-            .outcomes(position as usize, row.choice as usize)
-            .is_empty()
+impl<B: Board> Ground<'_, B> {
+    // The choice of the position's row; refuses where there is no row, or one that cannot be played.
+    fn usable(&self, position: u16) -> Result<u8, Refusal>
+        ensures { result ≡ by_row (B.arena self.now.board.now) position (find self.now.table.now.rows.items position) }
     {
-        return Err(Cause::NoUsableRow.at(0));
+        self.table
+            .row(position)
+            .filter(|row| row.rank != 0)
+            .map(|row| row.choice)
+            .filter(|choice| {
+                !self
+                    .board
+                    .outcomes(usize::from(position), usize::from(*choice))
+                    .is_empty()
+            })
+            .ok_or(Cause::NoUsableRow.at(0))
     }
-    Ok(row.choice)
 }
 
 impl Record {
@@ -81,16 +77,12 @@ impl Record {
     }
 
     // The choice to perform next, on which the run then waits.
-    pub(crate) fn delegate<B: Board>(
-        &mut self,
-        table: &AuditedTable,
-        board: &B,
-    ) -> Result<u8, Refusal>
-        ensures { (result, self.new) ≡ delegated (B.arena board.now) table.now.rows.items self.old }
+    pub(crate) fn delegate<B: Board>(&mut self, ground: &Ground<B>) -> Result<u8, Refusal>
+        ensures { (result, self.new) ≡ delegated (B.arena ground.now.board.now) ground.now.table.now.rows.items self.old }
     {
         match self.state {
             State::Idle => {
-                let choice = usable(table, board, self.position)?;
+                let choice = ground.usable(self.position)?;
                 self.state = State::Waiting(choice);
                 Ok(choice)
             }
@@ -114,13 +106,11 @@ impl Record {
         if slip != self.number {
             return Err(Cause::SlipMismatch.at(0));
         }
-        if !holds(
-            board.outcomes(self.position as usize, choice as usize),
-            position,
-        ) {
+        let outcomes = board.outcomes(usize::from(self.position), usize::from(choice));
+        if !outcomes.contains(&position) {
             return Err(Cause::NotAnOutcome.at(0));
         }
-        if self.count >= MOST {
+        if self.count >= MAX_REPORTS {
             return Err(Cause::TooManyReports.at(0));
         }
         self.position = position;
@@ -134,12 +124,9 @@ impl Record {
         ensures { (result, self.new) ≡ kept self.old (waiving self.old slip self.old.state) }
     {
         match self.state {
-            State::Waiting(_) => {
-                if slip == self.number {
-                    self.state = State::Abandoned;
-                    return Ok(());
-                }
-                Err(Cause::SlipMismatch.at(0))
+            State::Waiting(_) if slip == self.number => {
+                self.state = State::Abandoned;
+                Ok(())
             }
             _ => Err(Cause::SlipMismatch.at(0)),
         }
@@ -159,40 +146,20 @@ impl Record {
         }
     }
 
-    fn is_waiting(&self) -> bool
-        ensures { result ≡ waits self.now.state }
-    {
-        match self.state {
-            State::Waiting(_) => true,
-            _ => false,
-        }
-    }
-
-    // Delegates unless waiting.
-    fn ready<B: Board>(&mut self, table: &AuditedTable, board: &B) -> Result<(), Refusal>
-        ensures { (result, self.new) ≡ kept self.old (readied (B.arena board.now) table.now.rows.items self.old) }
-    {
-        if self.is_waiting() {
-            return Ok(());
-        }
-        self.delegate(table, board)?;
-        Ok(())
-    }
-
     // Delegates unless waiting, then reports the position as if with the run's slip.
     // A refused report leaves the record waiting, so this is for a record that is put back afterwards.
     pub(crate) fn suppose<B: Board>(
         &mut self,
-        table: &AuditedTable,
-        board: &B,
+        ground: &Ground<B>,
         position: u16,
     ) -> Result<(), Refusal>
         ensures { MatchResult result
-            (λ _. supposing (B.arena board.now) table.now.rows.items self.old position ≡ Ok self.new)
-            (λ e. supposing (B.arena board.now) table.now.rows.items self.old position ≡ Err e) }
+            (λ _. supposing (B.arena ground.now.board.now) ground.now.table.now.rows.items self.old position ≡ Ok self.new)
+            (λ e. supposing (B.arena ground.now.board.now) ground.now.table.now.rows.items self.old position ≡ Err e) }
     {
-        self.ready(table, board)?;
-        let number = self.number;
-        self.report(board, number, position)
+        if !matches!(self.state, State::Waiting(_)) {
+            self.delegate(ground)?;
+        }
+        self.report(ground.board, self.number, position)
     }
 }

@@ -2,10 +2,11 @@
 ghost use Rattle.std.specs.Prelude.{◌≡◌, MatchResult};
 ghost use Rattle.wire.specs.Refusals.{no_memory};
 ghost use Rattle.run.specs.Law.{Replayed};
-ghost use Rattle.run.specs.Run.{done_so, given_by, rehearsed, step, told};
+ghost use Rattle.run.specs.Run.{done_so, step, told};
 
 use crate::event::{Answer, Event, Replay};
 use crate::look::Look;
+use crate::record::Ground;
 use crate::run::Run;
 use board::board::Board;
 use std::alloc::Global;
@@ -15,45 +16,34 @@ use wire::refusal::Refusal;
 fn accept(reply: Result<(), Refusal>) -> Answer
     ensures { result ≡ told done_so reply }
 {
-    match reply {
-        Ok(()) => Answer::Accepted,
-        Err(refusal) => Answer::Refused { refusal },
-    }
-}
-
-fn give(number: u16, reply: Result<u8, Refusal>) -> Answer
-    ensures { result ≡ told (given_by number) reply }
-{
-    match reply {
-        Ok(choice) => Answer::Given {
-            choice,
-            slip: number,
-        },
-        Err(refusal) => Answer::Refused { refusal },
-    }
-}
-
-fn suppose(reply: Result<(Look, usize), (Refusal, usize)>) -> Answer
-    ensures { result ≡ rehearsed reply }
-{
-    match reply {
-        Ok((look, accepted)) => Answer::Rehearsed { look, accepted },
-        Err((refusal, accepted)) => Answer::Stopped { refusal, accepted },
-    }
+    reply.map_or_else(|refusal| Answer::Refused { refusal }, |()| Answer::Accepted)
 }
 
 // One event. No slip is made for it: its number is enough for the record.
-fn play<B: Board>(run: &mut Run, table: &AuditedTable, board: &B, event: Event) -> Answer
-    ensures { (result, run.new.rec) ≡ step (B.arena board.now) table.now.rows.items run.old.rec event.entry }
+fn play<B: Board>(run: &mut Run, ground: &Ground<B>, event: Event) -> Answer
+    ensures { (result, run.new.rec) ≡ step (B.arena ground.now.board.now) ground.now.table.now.rows.items run.old.rec event.entry }
 {
     let number = run.rec.number;
     match event {
-        Event::Delegate => give(number, run.rec.delegate(table, board)),
-        Event::Report { slip, position } => accept(run.rec.report(board, slip, position)),
+        Event::Delegate => run.rec.delegate(ground).map_or_else(
+            |refusal| Answer::Refused { refusal },
+            |choice| Answer::Given {
+                choice,
+                slip: number,
+            },
+        ),
+        Event::Report { slip, position } => accept(run.rec.report(ground.board, slip, position)),
         Event::Waive { slip } => accept(run.rec.waive(slip)),
-        Event::Abandon => accept(run.abandon()),
-        Event::Look => Answer::Seen { look: run.look() },
-        Event::Rehearse { supposed } => suppose(run.rehearse(table, board, supposed)),
+        Event::Abandon => accept(run.rec.abandon()),
+        Event::Look => Answer::Seen {
+            look: Look::from(run.rec),
+        },
+        Event::Rehearse { supposed } => run
+            .rehearse(ground.table, ground.board, supposed)
+            .map_or_else(
+                |(refusal, accepted)| Answer::Stopped { refusal, accepted },
+                |(look, accepted)| Answer::Rehearsed { look, accepted },
+            ),
     }
 }
 
@@ -67,13 +57,14 @@ pub fn replay<B: Board>(
 ) -> Result<Replay, Refusal>
     ensures { MatchResult result (Replayed (B.arena board.now) table.now.rows.items number events.now) (λ e. e ≡ no_memory) }
 {
+    let ground = Ground { table, board };
     let mut run = Run::start(table, board, number);
     let mut answers = Vec::new(heap);
     for event in events {
-        answers.push(play(&mut run, table, board, *event))?;
+        answers.push(play(&mut run, &ground, *event))?;
     }
     Ok(Replay {
         answers,
-        look: run.look(),
+        look: Look::from(run.rec),
     })
 }

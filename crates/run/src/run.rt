@@ -5,7 +5,7 @@ ghost use Rattle.run.specs.Run.{birth, step, told, done_so, handed, rehearsed, s
 
 use crate::event::{Answer, Event};
 use crate::look::Look;
-use crate::record::Record;
+use crate::record::{Ground, Record};
 use crate::slip::Slip;
 use board::board::Board;
 use board::table::Row;
@@ -32,6 +32,7 @@ impl Drop for Restore<'_> {
     }
 }
 
+// The public calls take the table and the board one by one, as their callers have them; `Ground` is for the inside.
 impl Run {
     // A run at the start of the board. Only an audited table is run.
     pub fn start<B: Board>(_table: &AuditedTable, board: &B, number: u16) -> Run
@@ -52,7 +53,7 @@ impl Run {
         ensures unused { IfOk result (λ p. p.1.used ≡ false) }
     {
         let number = self.rec.number;
-        let choice = self.rec.delegate(table, board)?;
+        let choice = self.rec.delegate(&Ground { table, board })?;
         Ok((choice, Slip::of(number)))
     }
 
@@ -65,26 +66,16 @@ impl Run {
     ) -> Result<(), (Refusal, Slip)>
         ensures { (rows : List Row) → (result, self.new.rec) ≡ spent slip (step (B.arena board.now) rows self.old.rec (Event.Report slip.run position)) }
     {
-        match self.rec.report(board, slip.number(), position) {
-            Ok(()) => {
-                slip.spend();
-                Ok(())
-            }
-            Err(refusal) => Err((refusal, slip)),
-        }
+        let reply = self.rec.report(board, slip.number(), position);
+        slip.settle(reply)
     }
 
     // Gives the delegated choice up, which abandons the run.
     pub fn waive(&mut self, slip: Slip) -> Result<(), (Refusal, Slip)>
         ensures { (a : Arena) (rows : List Row) → (result, self.new.rec) ≡ spent slip (step a rows self.old.rec (Event.Waive slip.run)) }
     {
-        match self.rec.waive(slip.number()) {
-            Ok(()) => {
-                slip.spend();
-                Ok(())
-            }
-            Err(refusal) => Err((refusal, slip)),
-        }
+        let reply = self.rec.waive(slip.number());
+        slip.settle(reply)
     }
 
     // Ends an idle run.
@@ -98,7 +89,7 @@ impl Run {
     pub fn look(&self) -> Look
         ensures { (a : Arena) (rows : List Row) → (Answer.Seen result, self.now.rec) ≡ step a rows self.now.rec Event.Look }
     {
-        Look::at(self.rec)
+        Look::from(self.rec)
     }
 
     // How the run would stand after the supposed positions, and how many of them were accepted.
@@ -115,14 +106,13 @@ impl Run {
             rec: &mut self.rec,
             saved,
         };
-        let mut accepted = 0;
-        for position in supposed {
-            if let Err(refusal) = guard.rec.suppose(table, board, *position) {
+        let ground = Ground { table, board };
+        for (accepted, position) in supposed.iter().enumerate() {
+            if let Err(refusal) = guard.rec.suppose(&ground, *position) {
                 return Err((refusal, accepted));
             }
-            accepted += 1;
         }
-        Ok((Look::at(*guard.rec), accepted))
+        Ok((Look::from(*guard.rec), supposed.len()))
     }
 }
 

@@ -1,9 +1,13 @@
 // The slip that a delegated choice is reported by.
 ghost use Rattle.std.specs.Prelude.{◌≡◌, true, false};
+ghost use Rattle.run.specs.Run.{spent_by, told, done_so};
+
+use wire::refusal::Refusal;
 
 // Names the run that gave it. It is used up by a report or by waiving, and by nothing else.
 pub struct Slip {
     run: u16,
+    // A mark, and not only a type with no `Drop`: a slip let go is then refused by a proof, and not by the compiler.
     used: bool,
 }
 
@@ -21,7 +25,20 @@ impl Slip {
         self.run
     }
 
-    pub(crate) fn spend(mut self) {
+    // An accepted call uses the slip up; a refused one hands it back.
+    pub(crate) fn settle(self, reply: Result<(), Refusal>) -> Result<(), (Refusal, Slip)>
+        ensures { result ≡ spent_by self (told done_so reply) }
+    {
+        match reply {
+            Ok(()) => {
+                self.spend();
+                Ok(())
+            }
+            Err(refusal) => Err((refusal, self)),
+        }
+    }
+
+    fn spend(mut self) {
         self.used = true;
     }
 }

@@ -20,7 +20,7 @@ in_range_lem at low high (Ok q) p e =
     let same : ◌≡◌ {A = Result (ℕ × ℕ) Refusal} (Ok q) (Ok p) = grind (arith, nat_tests) in
     let eq : q ≡ p = cc in
     (same, subst (λ (x : ℕ × ℕ). low ≤ x.0) eq lower, subst (λ (x : ℕ × ℕ). x.0 ≤ high) eq upper)
-in_range_lem at low high (Err w) p e = absurd (let z : ◌≡◌ {A = ℕ} 0 1 = cc in omega arith)
+in_range_lem at low high (Err w) p e = cc
 
 ranged_ok : (at low high : ℕ) (p : ℕ × ℕ) → low ≤ p.0 → p.0 ≤ high → ranged at low high (Ok p) ≡ Ok p
 ranged_ok at low high p l h = grind (arith, nat_tests)
@@ -38,7 +38,7 @@ goes r f x y e g = ap (λ q. and_then q f) e ∙ g
 ended : {X : Type 0} (i n : ℕ) (e : Refusal) (x y : X) → cond (ltb i n) (Err e) (Ok x) ≡ Ok y → (n ≤ i) × (x ≡ y)
 ended i n e x y h =
     ⊎_elim
-    (λ lt. absurd (let b = lt-ltb i n lt in let z : ◌≡◌ {A = ℕ} 0 1 = cc in omega arith))
+    (λ lt. let b = lt-ltb i n lt in cc)
     (λ ge. let b = le-ltb i n ge in (ge, cc))
     (cases_lt i n)
 

@@ -9,7 +9,7 @@ use Rattle.service.specs.File.{slot, slots, pieces, Filled}
 -- a sequence that came to its end came past its first part
 pub passed : {X Y : Type 0} (r : Result X Refusal) (f : X → Result Y Refusal) (y : Y) → and_then r f ≡ Ok y → (x : X) × (r ≡ Ok x) × (f x ≡ Ok y)
 passed (Ok x) f y e = (x, refl, e)
-passed (Err w) f y e = absurd (let z : ◌≡◌ {A = ℕ} 0 1 = cc in omega arith)
+passed (Err w) f y e = cc
 
 module _ {P : Type 0} (bs : List ℕ) (d z : P) (read : ℕ → P → Result (ℕ × P) Refusal) (G : P → List ℕ) (Good : P → Type 0) where
   abbrev put : List P → ℕ → List ℕ
@@ -88,7 +88,7 @@ module _ {P : Type 0} (bs : List ℕ) (d z : P) (read : ℕ → P → Result (�
         (λ j k m. get_or-set_other xs i j p d (λ x. omega arith) ∙ blank j (omega arith) m)
         (λ j k. good j (omega arith)) (λ j k m. unused j (omega arith) m) w.3 w.2 in
         let first : slot d read i (at, xs) ≡ Ok (w.0, set xs i p) = ap (λ r. and_then r (λ q. Ok (q.0, set xs i q.1))) (ap (read at) (blank i (omega arith) (omega arith)) ∙ w.1) in
-        (v.0, ap (λ r. and_then r (steps (slot d read) n (i + 1))) first ∙ v.1, v.2, v.3)
+        (v.0, rw first v.1, v.2, v.3)
 
     pub filled_taken : (m n at : ℕ) (ys : List P) (rest : List ℕ) → n ≤ m → Filled m n d z Good ys → at ≤ length bs → drop at bs ≡ pieces (put ys) n 0 ++ rest → (to : ℕ) × (slots d read n at (replicate m z) ≡ Ok (to, ys)) × (drop to bs ≡ rest) × (to ≤ length bs)
     filled_taken m n at ys rest h f l e =

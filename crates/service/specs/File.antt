@@ -69,6 +69,11 @@ file_of bs =
     and_then (services_of bs n.0 k.0 k.1 (replicate 8 zero_service)) (λ x.
     cond (nat_lt x.0 (length bs)) (Err (refused cause.BytesLeftOver x.0)) (Ok (record { count = n.0; actions = k.0; services = x.1 })))))
 
+-- what a reader answers that fills an output, where it then stands and what it leaves there; after a refusal the output may hold anything
+abbrev pub Fills : {X : Type 0} → Result (Unit {0}) Refusal → ℕ → X → Result (ℕ × X) Refusal → Type 0
+Fills (Ok u) to x q = q ≡ Ok (to, x)
+Fills (Err e) to x q = q ≡ Err e
+
 -- what reading into a zeroed file leaves; after a refusal it may hold anything
 abbrev pub Whole : Result (Unit {0}) Refusal → Contents → Result Contents Refusal → Type 0
 Whole (Ok u) c q = q ≡ Ok c

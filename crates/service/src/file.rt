@@ -13,6 +13,7 @@ pub use self::reader::read_services;
 pub struct CommunityFile {
     count: u8,
     actions: u8,
+    // the first `count` of them (an array of full size, so that reading cannot run out of memory)
     services: [Service; MAX_SERVICES],
     ghost limits: { (1 ≤ count) × (count ≤ 8) × (1 ≤ actions) × (actions ≤ 16) },
 }

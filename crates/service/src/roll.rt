@@ -7,7 +7,7 @@ use wire::refusal::{Cause, Refusal};
 // The longest roll, in slips.
 pub const MAX_LENGTH: u16 = 1000;
 
-// The actions.
+// The actions. A community counts its actions and its states from 0, so both are numbers.
 pub const PRINTING: u8 = 0;
 
 pub const LOADING: u8 = 1;
@@ -31,13 +31,13 @@ impl PaperRoll {
     pub fn new(length: u16) -> Result<PaperRoll, Refusal>
         ensures { MatchResult result (λ p. NewRoll length p.length p.left) (λ e. NoRoll length e) }
     {
-        if length == 0 || length > MAX_LENGTH {
-            return Err(Cause::RollLength.at(0));
+        match length {
+            1..=MAX_LENGTH => Ok(PaperRoll {
+                length,
+                left: length,
+            }),
+            _ => Err(Cause::RollLength.at(0)),
         }
-        Ok(PaperRoll {
-            length,
-            left: length,
-        })
     }
 
     // How many slips are left.

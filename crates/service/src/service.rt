@@ -1,12 +1,11 @@
 // One service of a file: its states, and for each state and action the set of next states.
 ghost use Rattle.std.specs.Prelude.{◌≡◌, ◌≤◌};
-ghost use Rattle.wire.specs.Reading.{filling};
-ghost use Rattle.service.specs.File.{row_of, table_of, service_of, zero_service};
+ghost use Rattle.service.specs.File.{Fills, row_of, table_of, service_of, zero_service};
 ghost use Rattle.service.specs.FileTables.{set_at};
 
 use crate::limits::{MAX_ACTIONS, MAX_STATES};
 use crate::sets::full_set;
-use wire::field::read_field;
+use wire::reader::Reader;
 use wire::refusal::Refusal;
 
 #[derive(Clone, Copy)]
@@ -15,6 +14,7 @@ pub struct Service {
     initial: u8,
     finals: u16,
     // by state, then by action; bit q of an entry stands for the next state q
+    // (an array of full size, so that reading cannot run out of memory)
     entries: [[u16; MAX_ACTIONS]; MAX_STATES],
 }
 
@@ -54,66 +54,44 @@ impl Service {
     pub(crate) fn entry(&self, state: u8, action: u8) -> u16
         ensures { result ≡ set_at self.now state action }
     {
-        let Some(row) = self.entries.get(state as usize) else {
-            return 0;
-        };
-        let Some(set) = row.get(action as usize) else {
-            return 0;
-        };
-        *set
+        self.entries
+            .get(usize::from(state))
+            .and_then(|row| row.get(usize::from(action)))
+            .copied()
+            .unwrap_or(0)
     }
 }
 
-// Reads the entries of one state, one for each of `k` actions.
+// Reads the entries of one state, one for each of `actions` actions.
 fn fill_row(
     row: &mut [u16; MAX_ACTIONS],
-    k: u16,
+    actions: u8,
     high: u16,
-    bytes: &[u8],
-    at: usize,
-) -> Result<usize, Refusal>
-    requires { k ≤ 16 }
-    ensures { filling result row.new (row_of bytes.now k high at row.old) }
+    reader: &mut Reader,
+) -> Result<(), Refusal>
+    requires { actions ≤ 16 }
+    ensures fills { Fills result reader.new.at row.new (row_of reader.old.bytes.now actions high reader.old.at row.old) }
+    ensures bytes { reader.new.bytes.now ≡ reader.old.bytes.now }
 {
-    let mut at = at;
-    for a in 0..k {
-        let (v, next) = read_field(bytes, at, 0, high)?;
-        row[a as usize] = v;
-        at = next;
+    for slot in &mut row[..usize::from(actions)] {
+        *slot = reader.field(0, high)?;
     }
-    Ok(at)
+    Ok(())
 }
 
-// Reads the rows of `states` states.
-fn fill_rows(
-    entries: &mut [[u16; MAX_ACTIONS]; MAX_STATES],
-    states: u16,
-    k: u16,
-    high: u16,
-    bytes: &[u8],
-    at: usize,
-) -> Result<usize, Refusal>
-    requires { (states ≤ 16) × (k ≤ 16) }
-    ensures { filling result entries.new (table_of bytes.now states k high at entries.old) }
+// Reads a service of `actions` actions into `x`.
+pub(crate) fn fill(x: &mut Service, actions: u8, reader: &mut Reader) -> Result<(), Refusal>
+    requires { actions ≤ 16 }
+    ensures fills { Fills result reader.new.at x.new (service_of reader.old.bytes.now actions reader.old.at x.old) }
+    ensures bytes { reader.new.bytes.now ≡ reader.old.bytes.now }
 {
-    let mut at = at;
-    for s in 0..states {
-        at = fill_row(&mut entries[s as usize], k, high, bytes, at)?;
-    }
-    Ok(at)
-}
-
-// Reads a service of `k` actions into `x`, and says where it ends.
-pub(crate) fn fill(x: &mut Service, k: u16, bytes: &[u8], at: usize) -> Result<usize, Refusal>
-    requires { k ≤ 16 }
-    ensures { filling result x.new (service_of bytes.now k at x.old) }
-{
-    let (states, second) = read_field(bytes, at, 1, MAX_STATES as u16)?;
+    let states = reader.field(1, MAX_STATES as u16)?;
     let high = full_set(states);
-    let (initial, third) = read_field(bytes, second, 0, states - 1)?;
-    let (finals, fourth) = read_field(bytes, third, 0, high)?;
     x.states = states as u8;
-    x.initial = initial as u8;
-    x.finals = finals;
-    fill_rows(&mut x.entries, states, k, high, bytes, fourth)
+    x.initial = reader.field(0, states - 1)? as u8;
+    x.finals = reader.field(0, high)?;
+    for row in &mut x.entries[..usize::from(states)] {
+        fill_row(row, actions, high, reader)?;
+    }
+    Ok(())
 }

@@ -1,5 +1,5 @@
 -- What a row or a number that was read tells, and what it takes to read one.
-use Rattle.std.proofs.Common.{◌≡◌, ℕ, ◌+◌, ◌<◌, ◌≤◌, Bool, true, false, eqb, ltb, leb, ◌⊎◌, List, [], ◌∷◌, ◌++◌, length, drop, Ok, Err, Decides, Result, sym, refl, ap, ◌∙◌, subst, inl, inr, ⊎_elim, arith}
+use Rattle.std.proofs.Common.{◌≡◌, ℕ, ◌+◌, ◌<◌, ◌≤◌, Bool, true, false, eqb, ltb, leb, ◌⊎◌, List, [], ◌++◌, length, drop, Ok, Err, Decides, Result, sym, refl, ap, ◌∙◌, subst, inl, inr, ⊎_elim, arith}
 use Rattle.std.proofs.lemmas.List.{append_assoc}
 use Rattle.std.proofs.lemmas.Bool.{both_ways, true≢false, false≢true, cases_Bool, cases_eq, cases_lt, eq-eqb, ne_eqb, ltb-true, lt-ltb, leb-true, le-leb, not-true, not_from_false, cond-true, cond-false}
 use Rattle.std.proofs.lemmas.Bool.Decides.{Decides-eqb}
@@ -39,10 +39,6 @@ decides_same false y d = (
 pub in_range_lem : (b : Arena) → Lawful b → (p c : ℕ) → some (b.outcomes p c) ≡ true → c < b.choices
 in_range_lem b ok p c e =
     ⊎_elim (λ l. l) (λ l. absurd (true≢false (sym e ∙ ap (some {A = ℕ}) (ok.beyond_choices p c l)))) (cases_lt c b.choices)
-
-pub not_empty : (xs : List ℕ) → eqb (length xs) 0 ≡ false → some xs ≡ true
-not_empty [] e = absurd (true≢false e)
-not_empty (x ∷ xs) e = refl
 
 -- a row that audit takes, wherever it stands
 pub record RowGood (b : Arena) (r : Row) : Type 0 where

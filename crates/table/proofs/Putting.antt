@@ -1,15 +1,15 @@
 -- Bytes that are put one after another.
-use Rattle.std.proofs.Common.{◌≡◌, ℕ, ◌+◌, ◌-◌, ◌<◌, ◌≤◌, true, false, eqb, leb, List, [], ◌∷◌, ◌++◌, length, get_or, drop, set, replicate, IsErrAnd, Ok, Err, Result, sym, refl, ap, ◌∙◌, subst, arith, MatchResult}
-use Rattle.std.proofs.lemmas.List.{append_assoc, append-nil, drop_all, at_drop_more, at_drop_all, length-append, length-set, length_push, length-replicate, drop-replicate, set_at}
-use Rattle.std.proofs.lemmas.Bool.{lt-leb, le-leb, eq-eqb, ne_eqb, cond-true, cond-false, and_left, and_right, and_from}
-use Rattle.std.proofs.lemmas.Result.{err_from_is_err_and}
+use Rattle.std.proofs.Common.{◌≡◌, ℕ, ◌+◌, ◌-◌, ◌<◌, ◌≤◌, true, false, eqb, leb, is_err, true≢false, List, [], ◌∷◌, ◌++◌, length, get_or, drop, set, replicate, Ok, Err, Result, sym, refl, ap, ◌∙◌, subst, arith}
+use Rattle.std.proofs.lemmas.List.{append_assoc, at_drop_more, at_drop_all, length-append, length-set, length_push, length-replicate, drop-replicate, set_at}
+use Rattle.std.proofs.lemmas.Bool.{lt-leb, le-leb, eq-eqb, ne_eqb, cond-true, cond-false, and_right, and_from}
 use Rattle.wire.specs.declared.refusal.Cause.TheVariants as cause
 use Rattle.wire.specs.declared.refusal.Refusal.{Refusal}
 use Rattle.wire.specs.Refusals.{refused}
 use Rattle.wire.specs.Number.{groups, put_at}
 use Rattle.board.specs.declared.table.Row.{Row}
+use Rattle.table.specs.declared.write.Writer.{Writer}
 use Rattle.table.specs.Bytes.{choice_bytes, row_bytes, rows_bytes, table_bytes}
-use Rattle.table.specs.Writing.{fits, written, holding, Puts, PutsTable}
+use Rattle.table.specs.Writing.{fits, holding, Puts, Adds, PutsTable}
 
 pub put_length : (xs : List ℕ) (i : ℕ) (ys : List ℕ) → length (put_at xs i ys) ≡ length xs
 put_length xs i [] = refl
@@ -40,151 +40,127 @@ put_on_zeros n ys h =
     put_front [] (replicate n 0) ys (omega arith) ∙ ap (λ zs. ys ++ zs) (drop-replicate (length ys) n 0)
 
 -- bytes after bytes
-pub puts_joined : (r : Result ℕ Refusal) (before mid after : List ℕ) (at next : ℕ) (ys zs : List ℕ) → next ≡ at + length ys → mid ≡ put_at before at ys → Puts r mid after next zs → Puts r before after at (ys ++ zs)
-puts_joined (Ok e) before mid after at next ys zs n m w =
+puts_joined : (before mid after : List ℕ) (at next e : ℕ) (ys zs : List ℕ) → Puts (Ok next) before mid at ys → Puts (Ok e) mid after next zs → Puts (Ok e) before after at (ys ++ zs)
+puts_joined before mid after at next e ys zs p w =
     let l = length-append ys zs in
-    let k : length mid ≡ length before = ap length m ∙ put_length before at ys in
-    (omega (arith, l, w.0), omega (arith, w.1, k), w.2 ∙ (λ i. put_at (m i) (n i) zs) ∙ sym (put_append before at ys zs))
-puts_joined (Err e) before mid after at next ys zs n m w =
+    let k : length mid ≡ length before = ap length p.2 ∙ put_length before at ys in
+    (omega (arith, l, p.0, w.0), omega (arith, w.1, k), w.2 ∙ (λ i. put_at (p.2 i) (p.0 i) zs) ∙ sym (put_append before at ys zs))
+
+pub adds_joined : (r : Result (Unit {0}) Refusal) (before mid after : Writer) (ys zs : List ℕ) → Adds (Ok tt) before mid ys → Adds r mid after zs → Adds r before after (ys ++ zs)
+adds_joined (Ok u) before mid after ys zs p w = puts_joined before.output.now mid.output.now after.output.now before.at mid.at after.at ys zs p w
+adds_joined (Err e) before mid after ys zs p w =
     let l = length-append ys zs in
-    let k : length mid ≡ length before = ap length m ∙ put_length before at ys in
-    (w.0, omega (arith, l, w.1, k))
+    let k : length mid.output.now ≡ length before.output.now = ap length p.2 ∙ put_length before.output.now before.at ys in
+    (w.0, omega (arith, l, p.0, w.1, k))
 
-pub puts_number : (r : Result ℕ Refusal) (before after : List ℕ) (at n : ℕ) → MatchResult r (λ e. (e ≡ at + length (groups n)) × (e ≤ length before) × (after ≡ put_at before at (groups n))) (λ e. (e ≡ refused cause.OutputTooShort 0) × (length before < at + length (groups n)) × (after ≡ before)) → Puts r before after at (groups n)
-puts_number (Ok e) before after at n w = w
-puts_number (Err e) before after at n w = (w.0, w.1)
+-- what was put first does not fit, so neither does the whole
+pub adds_fails : (e : Refusal) (before after : Writer) (ys zs : List ℕ) → Adds (Err e) before after ys → Adds (Err e) before after (ys ++ zs)
+adds_fails e before after ys zs w = (w.0, omega (arith, w.1, length-append ys zs))
 
--- the exit of a `?`: what was put first does not fit, so neither does the whole
-pub puts_fails : (r : Result ℕ Refusal) (before after : List ℕ) (at : ℕ) (ys zs : List ℕ) (e : Refusal) → IsErrAnd r (λ y. y ≡ e) → e ≡ refused cause.OutputTooShort 0 → length before < at + length ys → Puts r before after at (ys ++ zs)
-puts_fails r before after at ys zs e h w l =
-    let p = err_from_is_err_and r h in
-    let a = length-append ys zs in
-    let short : length before < at + length (ys ++ zs) = omega arith in
-    subst (λ x. Puts x before after at (ys ++ zs)) (sym p.1) (p.2 ∙ w, short)
+-- the choice stands there only where the rank is not 0
+choice_blank : (r : Row) (w : Writer) → w.at ≤ length w.output.now → r.rank ≡ 0 → Adds (Ok tt) w w (choice_bytes r)
+choice_blank r w l z =
+    let none : choice_bytes r ≡ [] = cond-true (eqb r.rank 0) [] (groups r.choice) (eq-eqb r.rank 0 z) in
+    let same : w.at ≡ w.at + 0 = omega arith in
+    subst (Adds (Ok tt) w w) (sym none) (same, l, refl)
 
--- i rows are put, and the others are to follow
-pub record PutOn (rows : List Row) (before : List ℕ) (start i : ℕ) (now : List ℕ) (at : ℕ) : Type 0 where
-  pub ends : at + length (rows_bytes (drop i rows)) ≡ start + length (rows_bytes rows)
-  pub same : put_at now at (rows_bytes (drop i rows)) ≡ put_at before start (rows_bytes rows)
-  pub within : at ≤ length before
-  pub long : length now ≡ length before
-
-pub put_on_none : (rows : List Row) (before : List ℕ) (start : ℕ) → start ≤ length before → PutOn rows before start 0 before start
-put_on_none rows before start l = record { ends = refl; same = refl; within = l; long = refl }
-
-module _ (rows : List Row) (before : List ℕ) (start i : ℕ) (now : List ℕ) (at : ℕ) (d : Row) (w : PutOn rows before start i now at) where
-  split : i < length rows → rows_bytes (drop i rows) ≡ row_bytes (get_or rows i d) ++ rows_bytes (drop (i + 1) rows)
-  split l = at_drop_more rows_bytes rows i d l
-
-  pub put_on_more : i < length rows → (e : ℕ) (after : List ℕ) → Puts (Ok e) now after at (row_bytes (get_or rows i d)) → PutOn rows before start (i + 1) after e
-  put_on_more l e after p =
-      let ys = row_bytes (get_or rows i d) in
-      let zs = rows_bytes (drop (i + 1) rows) in
-      let s = split l in
-      let n : length (rows_bytes (drop i rows)) ≡ length ys + length zs = ap length s ∙ length-append ys zs in
-      record {
-        ends = omega (arith, p.0, n, w.ends);
-        same = (λ j. put_at (p.2 j) (p.0 j) zs) ∙ sym (put_append now at ys zs) ∙ ap (put_at now at) (sym s) ∙ w.same;
-        within = omega (arith, p.1, w.long);
-        long = ap length p.2 ∙ put_length now at ys ∙ w.long;
-      }
-
-  pub put_on_stops : i < length rows → length now < at + length (row_bytes (get_or rows i d)) → length before < start + length (rows_bytes rows)
-  put_on_stops l h =
-      let ys = row_bytes (get_or rows i d) in
-      let zs = rows_bytes (drop (i + 1) rows) in
-      let n : length (rows_bytes (drop i rows)) ≡ length ys + length zs = ap length (split l) ∙ length-append ys zs in
-      omega (arith, n, w.ends, w.long)
-
-  pub put_on_all : length rows ≤ i → Puts (Ok at) before now start (rows_bytes rows)
-  put_on_all l =
-      let s : rows_bytes (drop i rows) ≡ [] = at_drop_all rows_bytes rows i l in
-      let n : length (rows_bytes (drop i rows)) ≡ 0 = ap length s in
-      (omega (arith, n, w.ends), w.within, ap (put_at now at) (sym s) ∙ w.same)
-
-pub puts_stops : (r : Result ℕ Refusal) (before after : List ℕ) (at : ℕ) (ys : List ℕ) (e : Refusal) → IsErrAnd r (λ y. y ≡ e) → e ≡ refused cause.OutputTooShort 0 → length before < at + length ys → Puts r before after at ys
-puts_stops r before after at ys e h w l =
-    let p = err_from_is_err_and r h in
-    subst (λ x. Puts x before after at ys) (sym p.1) (p.2 ∙ w, l)
-
--- a whole table
-module _ (rows : List Row) (before : List ℕ) where
-  pub too_many : 65535 < length rows → fits rows (length before) ≡ false
-  too_many l = and_left (leb (length rows) 65535) (leb (length (table_bytes rows)) (length before)) (lt-leb (length rows) 65535 l)
-
-  pub too_long : length before < length (table_bytes rows) → fits rows (length before) ≡ false
-  too_long l = and_right (leb (length rows) 65535) (leb (length (table_bytes rows)) (length before)) (lt-leb (length (table_bytes rows)) (length before) l)
-
-  pub they_fit : length rows ≤ 65535 → length (table_bytes rows) ≤ length before → fits rows (length before) ≡ true
-  they_fit m l = and_from (leb (length rows) 65535) (leb (length (table_bytes rows)) (length before)) (le-leb (length rows) 65535 m) (le-leb (length (table_bytes rows)) (length before) l)
-
-  pub puts_short : (r : Result ℕ Refusal) (after : List ℕ) (e : Refusal) → IsErrAnd r (λ y. y ≡ e) → e ≡ refused cause.OutputTooShort 0 → length before < length (table_bytes rows) → PutsTable r before after rows
-  puts_short r after e h w l =
-      let p = err_from_is_err_and r h in
-      subst (λ x. PutsTable x before after rows) (sym p.1) (p.2 ∙ w, too_long l)
-
-  pub puts_table : (r : Result ℕ Refusal) (after : List ℕ) → length rows ≤ 65535 → Puts r before after 0 (table_bytes rows) → PutsTable r before after rows
-  puts_table (Ok e) after m w = (m, w)
-  puts_table (Err e) after m w = (w.0, too_long (omega (arith, w.1)))
+choice_played : (r : Row) (before after : Writer) (x : Result (Unit {0}) Refusal) → (r.rank ≡ 0 → ⊥) → Adds x before after (groups r.choice) → Adds x before after (choice_bytes r)
+choice_played r before after x d w =
+    let one : choice_bytes r ≡ groups r.choice = cond-false (eqb r.rank 0) [] (groups r.choice) (ne_eqb r.rank 0 d) in
+    subst (Adds x before after) (sym one) w
 
 -- a row, number by number
-module _ (r : Row) where
-  pub choice_blank : (before : List ℕ) (at : ℕ) → r.rank ≡ 0 → at ≤ length before → Puts (Ok at) before before at (choice_bytes r)
-  choice_blank before at z l =
-      let none : choice_bytes r ≡ [] = cond-true (eqb r.rank 0) [] (groups r.choice) (eq-eqb r.rank 0 z) in
-      let same : at ≡ at + 0 = omega arith in
-      subst (Puts (Ok at) before before at) (sym none) (same, l, refl)
-
-  pub choice_played : (x : Result ℕ Refusal) (before after : List ℕ) (at : ℕ) → (r.rank ≡ 0 → ⊥) → Puts x before after at (groups r.choice) → Puts x before after at (choice_bytes r)
-  choice_played x before after at d w =
-      let one : choice_bytes r ≡ groups r.choice = cond-false (eqb r.rank 0) [] (groups r.choice) (ne_eqb r.rank 0 d) in
-      subst (Puts x before after at) (sym one) w
-
-  pub row_first_fails : (x : Result ℕ Refusal) (before after : List ℕ) (at : ℕ) (e : Refusal) → IsErrAnd x (λ y. y ≡ e) → e ≡ refused cause.OutputTooShort 0 → length before < at + length (groups r.position) → Puts x before after at (row_bytes r)
+module _ (r : Row) (before : Writer) where
+  pub row_fails : (e : Refusal) (after : Writer) → Adds (Err e) before after (groups r.position) → Adds (Err e) before after (row_bytes r)
   unfolding row_bytes
-  row_first_fails x before after at e h w l = puts_fails x before after at (groups r.position) (groups r.rank ++ choice_bytes r) e h w l
+  row_fails e after w = adds_fails e before after (groups r.position) (groups r.rank ++ choice_bytes r) w
 
-  module _ (before mid : List ℕ) (at second : ℕ) (p : Puts (Ok second) before mid at (groups r.position)) where
-    pub row_second_fails : (x : Result ℕ Refusal) (after : List ℕ) (e : Refusal) → IsErrAnd x (λ y. y ≡ e) → e ≡ refused cause.OutputTooShort 0 → length mid < second + length (groups r.rank) → Puts x before after at (row_bytes r)
+  module _ (mid : Writer) (p : Adds (Ok tt) before mid (groups r.position)) where
+    pub rank_fails : (e : Refusal) (after : Writer) → Adds (Err e) mid after (groups r.rank) → Adds (Err e) before after (row_bytes r)
     unfolding row_bytes
-    row_second_fails x after e h w l = puts_joined x before mid after at second (groups r.position) (groups r.rank ++ choice_bytes r) p.0 p.2 (puts_fails x mid after second (groups r.rank) (choice_bytes r) e h w l)
+    rank_fails e after w = adds_joined (Err e) before mid after (groups r.position) (groups r.rank ++ choice_bytes r) p (adds_fails e mid after (groups r.rank) (choice_bytes r) w)
 
-    pub row_behind : (x : Result ℕ Refusal) (late after : List ℕ) (third : ℕ) → Puts (Ok third) mid late second (groups r.rank) → Puts x late after third (choice_bytes r) → Puts x before after at (row_bytes r)
-    unfolding row_bytes
-    row_behind x late after third t c = puts_joined x before mid after at second (groups r.position) (groups r.rank ++ choice_bytes r) p.0 p.2 (puts_joined x mid late after second third (groups r.rank) (choice_bytes r) t.0 t.2 c)
+    module _ (late : Writer) (t : Adds (Ok tt) mid late (groups r.rank)) where
+      behind : (x : Result (Unit {0}) Refusal) (after : Writer) → Adds x late after (choice_bytes r) → Adds x before after (row_bytes r)
+      unfolding row_bytes
+      behind x after c = adds_joined x before mid after (groups r.position) (groups r.rank ++ choice_bytes r) p (adds_joined x mid late after (groups r.rank) (choice_bytes r) t c)
 
-pub no_row : Row
+      pub row_blank : r.rank ≡ 0 → Adds (Ok tt) before late (row_bytes r)
+      row_blank z =
+          let k : length late.output.now ≡ length mid.output.now = ap length t.2 ∙ put_length mid.output.now mid.at (groups r.rank) in
+          behind (Ok tt) late (choice_blank r late (omega (arith, t.1, k)) z)
+
+      pub row_played : (x : Result (Unit {0}) Refusal) (after : Writer) → (r.rank ≡ 0 → ⊥) → Adds x late after (groups r.choice) → Adds x before after (row_bytes r)
+      row_played x after d w = behind x after (choice_played r late after x d w)
+
+-- the number of rows and i rows are put, and the others are to follow
+pub record PutOn (rows : List Row) (before : List ℕ) (i : ℕ) (w : Writer) : Type 0 where
+  pub ends : w.at + length (rows_bytes (drop i rows)) ≡ length (table_bytes rows)
+  pub same : put_at w.output.now w.at (rows_bytes (drop i rows)) ≡ put_at before 0 (table_bytes rows)
+  pub within : w.at ≤ length before
+  pub long : length w.output.now ≡ length before
+
+module _ (rows : List Row) (before : List ℕ) where
+  too_long : (e : Refusal) → e ≡ refused cause.OutputTooShort 0 → length before < length (table_bytes rows) → PutsTable (Err e) before before rows
+  too_long e w l = (w, and_right (leb (length rows) 65535) (leb (length (table_bytes rows)) (length before)) (lt-leb (length (table_bytes rows)) (length before) l))
+
+  module _ (n : ℕ) (many : n ≡ length rows) where
+    whole : table_bytes rows ≡ groups n ++ rows_bytes rows
+    unfolding table_bytes
+    whole = ap (λ m. groups m ++ rows_bytes rows) (sym many)
+
+    count_long : length (table_bytes rows) ≡ length (groups n) + length (rows_bytes rows)
+    count_long = ap length whole ∙ length-append (groups n) (rows_bytes rows)
+
+    pub count_fails : (e : Refusal) (after : List ℕ) → Puts (Err e) before after 0 (groups n) → PutsTable (Err e) before after rows
+    count_fails e after w = too_long e w.0 (omega (arith, w.1, count_long))
+
+    pub put_on_none : (after : Writer) → Puts (Ok after.at) before after.output.now 0 (groups n) → PutOn rows before 0 after
+    put_on_none after w = record {
+      ends = omega (arith, w.0, count_long);
+      same = (λ i. put_at (w.2 i) (w.0 i) (rows_bytes rows)) ∙ sym (put_append before 0 (groups n) (rows_bytes rows)) ∙ ap (put_at before 0) (sym whole);
+      within = w.1;
+      long = ap length w.2 ∙ put_length before 0 (groups n);
+    }
+
+  module _ (i : ℕ) (now : Writer) (d : Row) (w : PutOn rows before i now) where
+    split : i < length rows → rows_bytes (drop i rows) ≡ row_bytes (get_or rows i d) ++ rows_bytes (drop (i + 1) rows)
+    split l = at_drop_more rows_bytes rows i d l
+
+    pub put_on_more : i < length rows → (after : Writer) → Adds (Ok tt) now after (row_bytes (get_or rows i d)) → PutOn rows before (i + 1) after
+    put_on_more l after p =
+        let ys = row_bytes (get_or rows i d) in
+        let zs = rows_bytes (drop (i + 1) rows) in
+        let s = split l in
+        let n : length (rows_bytes (drop i rows)) ≡ length ys + length zs = ap length s ∙ length-append ys zs in
+        record {
+          ends = omega (arith, p.0, n, w.ends);
+          same = (λ j. put_at (p.2 j) (p.0 j) zs) ∙ sym (put_append now.output.now now.at ys zs) ∙ ap (put_at now.output.now now.at) (sym s) ∙ w.same;
+          within = omega (arith, p.1, w.long);
+          long = ap length p.2 ∙ put_length now.output.now now.at ys ∙ w.long;
+        }
+
+    pub put_on_stops : i < length rows → (e : Refusal) (after : Writer) → Adds (Err e) now after (row_bytes (get_or rows i d)) → PutsTable (Err e) before after.output.now rows
+    put_on_stops l e after p =
+        let ys = row_bytes (get_or rows i d) in
+        let zs = rows_bytes (drop (i + 1) rows) in
+        let n : length (rows_bytes (drop i rows)) ≡ length ys + length zs = ap length (split l) ∙ length-append ys zs in
+        too_long e p.0 (omega (arith, n, p.1, w.ends, w.long))
+
+    pub put_on_all : length rows ≤ i → length rows ≤ 65535 → PutsTable (Ok now.at) before now.output.now rows
+    put_on_all l m =
+        let s : rows_bytes (drop i rows) ≡ [] = at_drop_all rows_bytes rows i l in
+        let n : length (rows_bytes (drop i rows)) ≡ 0 = ap length s in
+        (m, (omega (arith, n, w.ends), w.within, ap (put_at now.output.now now.at) (sym s) ∙ w.same))
+
+-- a table that was written leaves what it should in an output that was all zero
+pub table_leaves : (rows : List Row) (room : ℕ) (before after : List ℕ) (r : Result ℕ Refusal) → before ≡ replicate room 0 → is_err r ≡ false → PutsTable r before after rows → after ≡ holding rows room
+table_leaves rows room before after (Ok e) blank ok w =
+    let long : length before ≡ room = ap length blank ∙ length-replicate room 0 in
+    let l : length (table_bytes rows) ≤ room = omega (arith, w.1.0, w.1.1, long) in
+    let fit : fits rows room ≡ true = and_from (leb (length rows) 65535) (leb (length (table_bytes rows)) room) (le-leb (length rows) 65535 w.0) (le-leb (length (table_bytes rows)) room l) in
+    w.1.2 ∙ ap (λ xs. put_at xs 0 (table_bytes rows)) blank ∙ put_on_zeros room (table_bytes rows) l ∙ sym (cond-true (fits rows room) _ _ fit)
+table_leaves rows room before after (Err e) blank ok w = absurd (true≢false ok)
+
+abbrev pub no_row : Row
 no_row = record { position = 0; rank = 0; choice = 0 }
-
-pub zeros_all : (i : ℕ) (d : List ℕ) → i ≡ length d → replicate i 0 ++ drop i d ≡ replicate (length d) 0
-zeros_all i d e =
-    ap (λ zs. replicate i 0 ++ zs) (drop_all i d (omega arith)) ∙ append-nil (replicate i 0) ∙ ap (λ n. replicate n 0) e
-
--- the number of rows, and the rows
-module _ (rows : List Row) where
-  pub count_short : (before : List ℕ) → length before < 0 + length (groups (length rows)) → length before < length (table_bytes rows)
-  unfolding table_bytes
-  count_short before l = omega (arith, length-append (groups (length rows)) (rows_bytes rows))
-
-  pub count_then : (x : Result ℕ Refusal) (before mid after : List ℕ) (next : ℕ) → Puts (Ok next) before mid 0 (groups (length rows)) → Puts x mid after next (rows_bytes rows) → Puts x before after 0 (table_bytes rows)
-  unfolding table_bytes
-  count_then x before mid after next p w = puts_joined x before mid after 0 next (groups (length rows)) (rows_bytes rows) p.0 p.2 w
-
-  module _ (room : ℕ) (before after : List ℕ) (blank : before ≡ replicate room 0) where
-    long : length before ≡ room
-    long = ap length blank ∙ length-replicate room 0
-
-    pub table_written : (e : ℕ) → PutsTable (Ok e) before after rows → (Ok e ≡ written rows room) × (after ≡ holding rows room)
-    table_written e w =
-        let n : e ≡ length (table_bytes rows) = omega (arith, w.1.0) in
-        let l : length (table_bytes rows) ≤ length before = omega (arith, w.1.1) in
-        let k = long in
-        let fit : fits rows room ≡ true = ap (fits rows) (sym k) ∙ they_fit rows before w.0 l in (
-          ap (λ (m : ℕ). Ok m) n ∙ sym (cond-true (fits rows room) _ _ fit),
-          w.1.2 ∙ ap (λ xs. put_at xs 0 (table_bytes rows)) blank ∙ put_on_zeros room (table_bytes rows) (omega arith) ∙ sym (cond-true (fits rows room) _ _ fit),
-        )
-
-    pub table_refused : (e : Refusal) → PutsTable (Err e) before after rows → (Err e ≡ written rows room) × (replicate room 0 ≡ holding rows room)
-    table_refused e w =
-        let fit : fits rows room ≡ false = ap (fits rows) (sym long) ∙ w.1 in
-        (ap (λ (x : Refusal). Err x) w.0 ∙ sym (cond-false (fits rows room) _ _ fit), sym (cond-false (fits rows room) _ _ fit))

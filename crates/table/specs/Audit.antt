@@ -1,5 +1,5 @@
 -- What audit answers: the first fault in the order of the bytes, or the rows.
-use Rattle.std.specs.Prelude.{◌≡◌, ℕ, zero, suc, ◌+◌, Bool, cond, ◌&&◌, ◌||◌, List, [], ◌∷◌, map, length, is_some, None, Ok, Err, Option, Result, ◌==◌, nat_eq, nat_le, nat_lt, slice_index_or}
+use Rattle.std.specs.Prelude.{◌≡◌, ℕ, zero, suc, ◌+◌, ◌<◌, Bool, cond, ◌&&◌, ◌||◌, List, [], ◌∷◌, map, length, is_some, None, Ok, Err, Option, Result, ◌==◌, nat_eq, nat_le, nat_lt, slice_index_or}
 use Rattle.wire.specs.declared.refusal.Cause.TheVariants as cause
 use Rattle.wire.specs.declared.refusal.Refusal.{Refusal}
 use Rattle.wire.specs.Refusals.{refused}
@@ -10,6 +10,16 @@ use Rattle.board.specs.Arena.{Arena}
 use Rattle.board.specs.Lists.{some, all, any, same}
 use Rattle.board.specs.Rounds.{held}
 use Rattle.table.specs.declared.audit.Placed.{Placed}
+use Rattle.table.specs.declared.audit.RowReader.{RowReader}
+
+-- what a reader answers, and where it then stands, by what stands in the bytes: a value and where that ends, or a refusal
+abbrev pub Reads : {X : Type 0} → Result X Refusal → ℕ → Result (X × ℕ) Refusal → Type 0
+Reads (Ok x) to there = there ≡ Ok (x, to)
+Reads (Err e) to there = there ≡ Err e
+
+-- a reader reads the same bytes of the same board as another
+abbrev pub Same : {B : Type 0} → RowReader B → RowReader B → Type 0
+Same r s = (s.board.now ≡ r.board.now) × (s.numbers.bytes.now ≡ r.numbers.bytes.now)
 
 -- go on where the test passes
 abbrev pub asked : {X : Type 0} → Bool → Refusal → Result X Refusal → Result X Refusal
@@ -89,3 +99,7 @@ audit_of b bs = and_then (count_at b bs) (λ n. and_then (rows_at b bs n.0 0 n.1
 pub record Marked (ranks : List (Option ℕ)) (rows : List Row) : Type 0 where
   pub lower : (t q : ℕ) → held ranks t q ≡ lower_row rows t q
   pub listed : (q : ℕ) → is_some (slice_index_or ranks q None) ≡ has_row rows q
+
+-- each row's position is below those of the rows after it, by their places
+abbrev pub Rising : List Row → Type 0
+Rising rows = (i j : ℕ) (d : Row) → i < j → j < length rows → (slice_index_or rows i d).position < (slice_index_or rows j d).position

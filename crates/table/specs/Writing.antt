@@ -5,6 +5,7 @@ use Rattle.wire.specs.declared.refusal.Refusal.{Refusal}
 use Rattle.wire.specs.Refusals.{refused}
 use Rattle.wire.specs.Number.{put_at}
 use Rattle.board.specs.declared.table.Row.{Row}
+use Rattle.table.specs.declared.write.Writer.{Writer}
 use Rattle.table.specs.Bytes.{table_bytes}
 
 -- a number can hold how many rows there are, and the room their bytes
@@ -22,6 +23,11 @@ holding rows room = cond (fits rows room) (table_bytes rows ++ replicate (room -
 abbrev pub Puts : Result ℕ Refusal → List ℕ → List ℕ → ℕ → List ℕ → Type 0
 Puts (Ok e) before after at bs = (e ≡ at + length bs) × (e ≤ length before) × (after ≡ put_at before at bs)
 Puts (Err e) before after at bs = (e ≡ refused cause.OutputTooShort 0) × (length before < at + length bs)
+
+-- the same for a writer, whose place says where they end
+abbrev pub Adds : Result (Unit {0}) Refusal → Writer → Writer → List ℕ → Type 0
+Adds (Ok u) before after bs = Puts (Ok after.at) before.output.now after.output.now before.at bs
+Adds (Err e) before after bs = Puts (Err e) before.output.now after.output.now before.at bs
 
 -- the same for a whole table at the front
 abbrev pub PutsTable : Result ℕ Refusal → List ℕ → List ℕ → List Row → Type 0

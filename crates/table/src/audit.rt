@@ -1,18 +1,16 @@
 // The rows of a table file, read and checked against a board.
-ghost use Rattle.std.specs.Prelude.{◌≡◌, ◌⊎◌, [], replicate, None, Ok, Err, MatchResult};
+ghost use Rattle.std.specs.Prelude.{◌≡◌, ◌+◌, ◌⊎◌, not, Ok, Err, IfOk, MatchResult};
+ghost use Rattle.std.specs.List.{find};
 ghost use Rattle.wire.specs.Refusals.{no_memory};
-ghost use Rattle.board.specs.Lists.{all};
 ghost use Rattle.board.specs.Rounds.{held};
-ghost use Rattle.table.specs.Audit.{count_at, position_at, rank_at, choice_at, row_at, rows_at, rows_of, leads, fallen, audit_of, Marked};
+ghost use Rattle.table.specs.Audit.{Same, count_at, position_at, rank_at, choice_at, row_at, rows_of, leads, audit_of, Reads};
 
 use board::board::Board;
+use board::ranks::Ranks;
 use board::table::Row;
-use std::alloc::Global;
-use wire::number::number_at;
+use std::alloc::{AllocError, Global};
+use wire::reader::Reader;
 use wire::refusal::{Cause, Refusal};
-
-// The most positions that a board has.
-const MOST: usize = 1024;
 
 // A row, and the place where it begins.
 #[derive(Clone, Copy)]
@@ -21,180 +19,137 @@ struct Placed {
     row: Row,
 }
 
-// The number of rows, not above the number of positions, and where it ends.
-fn read_count<B: Board>(board: &B, bytes: &[u8]) -> Result<(u16, usize), Refusal>
-    ensures { result ≡ count_at (B.arena board.now) bytes.now }
-{
-    let (count, next) = number_at(bytes, 0)?;
-    if count as usize > board.positions() {
-        return Err(Cause::OutsideField.at(0));
-    }
-    Ok((count, next))
-}
-
-// The position of a row, on the board and not below `floor`, and where it ends.
-fn read_position<B: Board>(
-    board: &B,
-    bytes: &[u8],
+// Reads rows of a board; the position of the next one is not below `floor`.
+#[derive(Drop)]
+struct RowReader<'a, B> {
+    board: &'a B,
+    numbers: Reader<'a>,
     floor: usize,
-    at: usize,
-) -> Result<(u16, usize), Refusal>
-    ensures { result ≡ position_at (B.arena board.now) bytes.now floor at }
-{
-    let (position, next) = number_at(bytes, at)?;
-    if position as usize >= board.positions() {
-        return Err(Cause::OutsideField.at(at));
-    }
-    if (position as usize) < floor {
-        return Err(Cause::RowsNotAscending.at(at));
-    }
-    Ok((position, next))
 }
 
-// The rank of a row, 0 exactly where the position is done, and where it ends.
-fn read_rank<B: Board>(
-    board: &B,
-    bytes: &[u8],
-    position: usize,
-    at: usize,
-) -> Result<(u16, usize), Refusal>
-    ensures { result ≡ rank_at (B.arena board.now) bytes.now position at }
-{
-    let (rank, next) = number_at(bytes, at)?;
-    if board.is_done(position) {
-        if rank != 0 {
+impl<'a, B: Board> RowReader<'a, B> {
+    fn new(board: &'a B, bytes: &'a [u8]) -> RowReader<'a, B>
+        ensures board { result.board.now ≡ board.now }
+        ensures bytes { result.numbers.bytes.now ≡ bytes.now }
+        ensures at { result.numbers.at ≡ 0 }
+        ensures floor { result.floor ≡ 0 }
+    {
+        RowReader {
+            board,
+            numbers: Reader::new(bytes),
+            floor: 0,
+        }
+    }
+
+    // The number of rows, not above the number of positions.
+    fn count(&mut self) -> Result<u16, Refusal>
+        requires { self.old.numbers.at ≡ 0 }
+        ensures reads { Reads result self.new.numbers.at (count_at (B.arena self.old.board.now) self.old.numbers.bytes.now) }
+        ensures floor { self.new.floor ≡ self.old.floor }
+        ensures same { Same self.old self.new }
+    {
+        let count = self.numbers.number()?;
+        if usize::from(count) > self.board.positions() {
+            return Err(Cause::OutsideField.at(0));
+        }
+        Ok(count)
+    }
+
+    // The position of a row, on the board and not below the floor.
+    fn position(&mut self) -> Result<u16, Refusal>
+        ensures reads { Reads result self.new.numbers.at (position_at (B.arena self.old.board.now) self.old.numbers.bytes.now self.old.floor self.old.numbers.at) }
+        ensures same { Same self.old self.new }
+    {
+        let at = self.numbers.at();
+        let position = self.numbers.number()?;
+        if usize::from(position) >= self.board.positions() {
+            return Err(Cause::OutsideField.at(at));
+        }
+        if usize::from(position) < self.floor {
+            return Err(Cause::RowsNotAscending.at(at));
+        }
+        Ok(position)
+    }
+
+    // The rank of a row, 0 exactly where the position is done.
+    fn rank(&mut self, position: u16) -> Result<u16, Refusal>
+        ensures reads { Reads result self.new.numbers.at (rank_at (B.arena self.old.board.now) self.old.numbers.bytes.now position self.old.numbers.at) }
+        ensures same { Same self.old self.new }
+    {
+        let at = self.numbers.at();
+        let rank = self.numbers.number()?;
+        if self.board.is_done(usize::from(position)) != (rank == 0) {
             return Err(Cause::RankAgainstDone.at(at));
         }
-    } else if rank == 0 {
-        return Err(Cause::RankAgainstDone.at(at));
+        Ok(rank)
     }
-    Ok((rank, next))
-}
 
-// The choice of a row, playable there, and where it ends.
-fn read_choice<B: Board>(
-    board: &B,
-    bytes: &[u8],
-    position: usize,
-    at: usize,
-) -> Result<(u8, usize), Refusal>
-    ensures { result ≡ choice_at (B.arena board.now) bytes.now position at }
-{
-    let (choice, next) = number_at(bytes, at)?;
-    if board.outcomes(position, choice as usize).is_empty() {
-        return Err(Cause::ChoiceUnplayable.at(at));
+    // The choice of a row, playable there.
+    fn choice(&mut self, position: u16) -> Result<u8, Refusal>
+        ensures reads { Reads result self.new.numbers.at (choice_at (B.arena self.old.board.now) self.old.numbers.bytes.now position self.old.numbers.at) }
+        ensures same { Same self.old self.new }
+    {
+        let at = self.numbers.at();
+        let choice = self.numbers.number()?;
+        if self
+            .board
+            .outcomes(usize::from(position), usize::from(choice))
+            .is_empty()
+        {
+            return Err(Cause::ChoiceUnplayable.at(at));
+        }
+        // A board has at most 128 choices, so this one fits.
+        Ok(choice as u8)
     }
-    Ok((choice as u8, next))
-}
 
-// The row at `at`, and where it ends.
-fn read_row<B: Board>(
-    board: &B,
-    bytes: &[u8],
-    floor: usize,
-    at: usize,
-) -> Result<(Row, usize), Refusal>
-    ensures { result ≡ row_at (B.arena board.now) bytes.now floor at }
-{
-    let (position, second) = read_position(board, bytes, floor, at)?;
-    let (rank, third) = read_rank(board, bytes, position as usize, second)?;
-    if rank == 0 {
-        let row = Row {
+    // The next row.
+    #[tactic(auto, unfolding(crate::specs::Audit::row_at))]
+    fn row(&mut self) -> Result<Row, Refusal>
+        ensures reads { Reads result self.new.numbers.at (row_at (B.arena self.old.board.now) self.old.numbers.bytes.now self.old.floor self.old.numbers.at) }
+        ensures floor { IfOk result (λ r. self.new.floor ≡ r.position + 1) }
+        ensures same { Same self.old self.new }
+    {
+        let position = self.position()?;
+        let rank = self.rank(position)?;
+        let choice = if rank == 0 { 0 } else { self.choice(position)? };
+        self.floor = usize::from(position) + 1;
+        Ok(Row {
             position,
             rank,
-            choice: 0,
-        };
-        return Ok((row, third));
+            choice,
+        })
     }
-    let (choice, end) = read_choice(board, bytes, position as usize, third)?;
-    let row = Row {
-        position,
-        rank,
-        choice,
-    };
-    Ok((row, end))
-}
-
-// Reads the rows, and notes the rank of each position that has one; says where they end.
-fn read_rows<B: Board>(
-    board: &B,
-    bytes: &[u8],
-    count: u16,
-    at: usize,
-    rows: &mut Vec<Placed>,
-    ranks: &mut [Option<u16>],
-) -> Result<usize, Refusal>
-    requires empty { rows.old.items ≡ [] }
-    requires blank { ranks.old ≡ replicate 1024 None }
-    ensures { MatchResult result (λ e. (rows_at (B.arena board.now) bytes.now count 0 at ≡ Ok (e, rows.new.items)) × Marked ranks.new (rows_of rows.new.items)) (λ e. (rows_at (B.arena board.now) bytes.now count 0 at ≡ Err e) ⊎ (e ≡ no_memory)) }
-{
-    let mut at = at;
-    let mut floor = 0;
-    for _ in 0..count {
-        let (row, next) = read_row(board, bytes, floor, at)?;
-        rows.push(Placed { place: at, row })?;
-        ranks[row.position as usize] = Some(row.rank);
-        floor = row.position as usize + 1;
-        at = next;
-    }
-    Ok(at)
-}
-
-// Whether the position has a rank below `limit`.
-fn is_lower(ranks: &[Option<u16>], limit: u16, position: usize) -> bool
-    ensures { result ≡ held ranks.now limit position }
-{
-    if position >= ranks.len() {
-        return false;
-    }
-    match ranks[position] {
-        Some(rank) => rank < limit,
-        None => false,
-    }
-}
-
-fn all_lower(ranks: &[Option<u16>], limit: u16, positions: &[u16]) -> bool
-    ensures { result ≡ all (held ranks.now limit) positions.now }
-{
-    for position in positions {
-        if !is_lower(ranks, limit, *position as usize) {
-            return false;
-        }
-    }
-    true
 }
 
 // Whether every outcome of the row's choice has a lower rank.
-fn leads_down<B: Board>(board: &B, ranks: &[Option<u16>], row: Row) -> bool
-    ensures { result ≡ leads (B.arena board.now) (held ranks.now) row }
+fn leads_down<B: Board>(board: &B, ranks: &Ranks, row: Row) -> bool
+    ensures { result ≡ leads (B.arena board.now) (held ranks.now.of) row }
 {
     if row.rank == 0 {
         return true;
     }
-    let outcomes = board.outcomes(row.position as usize, row.choice as usize);
-    all_lower(ranks, row.rank, outcomes)
+    let outcomes = board.outcomes(usize::from(row.position), usize::from(row.choice));
+    ranks.all_below(row.rank, outcomes)
 }
 
-// The rows without their places, if each leads down.
-fn falling_rows<B: Board>(
-    heap: Global,
-    board: &B,
-    ranks: &[Option<u16>],
-    rows: &[Placed],
-) -> Result<Vec<Row>, Refusal>
-    ensures { MatchResult result (λ v. fallen (leads (B.arena board.now) (held ranks.now)) rows.now ≡ Ok v.items) (λ e. (fallen (leads (B.arena board.now) (held ranks.now)) rows.now ≡ Err e) ⊎ (e ≡ no_memory)) }
+// The first row that does not lead down.
+fn first_loose<B: Board>(board: &B, ranks: &Ranks, rows: &[Placed]) -> Option<Placed>
+    ensures { result ≡ find (λ x. not (leads (B.arena board.now) (held ranks.now.of) x.row)) rows.now }
 {
-    let mut checked = Vec::new(heap);
-    for each in rows {
-        if !leads_down(board, ranks, each.row) {
-            return Err(Cause::RankNotFalling.at(each.place));
-        }
-        checked.push(each.row)?;
-    }
-    Ok(checked)
+    rows.iter()
+        .copied()
+        .find(|each| !leads_down(board, ranks, each.row))
+}
+
+// The rows without their places.
+fn rows_alone(heap: Global, rows: &[Placed]) -> Result<Vec<Row>, AllocError>
+    ensures { IfOk result (λ v. v.items ≡ rows_of rows.now) }
+{
+    rows.iter().map(|each| each.row).collect(heap)
 }
 
 // The rows that the bytes hold, if they pass the audit.
+#[tactic(auto, using(crate::proofs::Turns::uncounted, crate::proofs::Turns::reading_lost))]
 pub(crate) fn audited_rows<B: Board>(
     heap: Global,
     bytes: &[u8],
@@ -202,15 +157,23 @@ pub(crate) fn audited_rows<B: Board>(
 ) -> Result<Vec<Row>, Refusal>
     ensures { MatchResult result (λ v. audit_of (B.arena board.now) bytes.now ≡ Ok v.items) (λ e. (audit_of (B.arena board.now) bytes.now ≡ Err e) ⊎ (e ≡ no_memory)) }
 {
-    let (count, at) = read_count(board, bytes)?;
+    let mut reader = RowReader::new(board, bytes);
+    let count = reader.count()?;
     let mut rows = Vec::new(heap);
-    let mut ranks = [None; MOST];
-    let end = read_rows(board, bytes, count, at, &mut rows, &mut ranks)?;
-    if end < bytes.len() {
-        return Err(Cause::BytesLeftOver.at(end));
+    let mut ranks = Ranks::none();
+    // No chain: each row is read where the one before ends, and may be refused.
+    for _ in 0..count {
+        let place = reader.numbers.at();
+        let row = reader.row()?;
+        ranks.set(usize::from(row.position), row.rank);
+        rows.push(Placed { place, row })?;
     }
-    if ranks[0].is_none() {
+    reader.numbers.finish()?;
+    if ranks.get(0).is_none() {
         return Err(Cause::NoStartRow.at(bytes.len()));
     }
-    falling_rows(heap, board, &ranks, &rows)
+    if let Some(loose) = first_loose(board, &ranks, &rows) {
+        return Err(Cause::RankNotFalling.at(loose.place));
+    }
+    Ok(rows_alone(heap, &rows)?)
 }

@@ -1,80 +1,72 @@
 // Writing a table.
-ghost use Rattle.std.specs.Prelude.{◌≡◌, ◌≤◌, length, replicate};
-ghost use Rattle.table.specs.Bytes.{choice_bytes, row_bytes, rows_bytes};
+ghost use Rattle.std.specs.Prelude.{◌≡◌, ◌≤◌, length};
+ghost use Rattle.wire.specs.Number.{groups};
+ghost use Rattle.table.specs.Bytes.{row_bytes};
 ghost use Rattle.table.specs.Law.{SolutionIsAudited};
-ghost use Rattle.table.specs.Writing.{written, holding, Puts, PutsTable};
+ghost use Rattle.table.specs.Writing.{written, holding, Adds, PutsTable};
 
 use board::table::{Row, Table};
 use wire::number::write_number;
 use wire::refusal::{Cause, Refusal};
 
-// The largest number of rows that can be written.
-const MOST_ROWS: usize = 65535;
+// Bytes that are written from the front on; the next number goes to `at`.
+#[derive(Drop)]
+struct Writer<'a> {
+    output: &'a mut [u8],
+    at: usize,
+}
 
-fn clear(output: &mut [u8])
-    ensures { output.new ≡ replicate (length output.old) 0 }
-{
-    for byte in output.iter_mut() {
-        *byte = 0;
+impl Writer<'_> {
+    fn number(&mut self, n: u16) -> Result<(), Refusal>
+        ensures puts { Adds result self.old self.new (groups n) }
+        ensures named { self.new.output.ghost_name ≡ self.old.output.ghost_name }
+    {
+        self.at = write_number(self.output, self.at, n)?;
+        Ok(())
+    }
+
+    // Position and rank, and the choice where the rank is not 0.
+    #[tactic(auto, using(crate::proofs::Putting::row_fails, crate::proofs::Putting::rank_fails, crate::proofs::Putting::row_blank, crate::proofs::Putting::row_played))]
+    fn row(&mut self, row: Row) -> Result<(), Refusal>
+        ensures puts { Adds result self.old self.new (row_bytes row) }
+        ensures named { self.new.output.ghost_name ≡ self.old.output.ghost_name }
+    {
+        self.number(row.position)?;
+        self.number(row.rank)?;
+        if row.rank != 0 {
+            self.number(u16::from(row.choice))?;
+        }
+        Ok(())
     }
 }
 
-// Writes the row's choice from `at` on, which stands there where the rank is not 0, and says where it ends.
-fn write_choice(output: &mut [u8], at: usize, row: Row) -> Result<usize, Refusal>
-    requires { at ≤ length output.old }
-    ensures { Puts result output.old output.new at (choice_bytes row) }
-{
-    if row.rank == 0 {
-        return Ok(at);
-    }
-    write_number(output, at, row.choice as u16)
-}
-
-// Writes a row from `at` on, and says where it ends.
-fn write_row(output: &mut [u8], at: usize, row: Row) -> Result<usize, Refusal>
-    ensures { Puts result output.old output.new at (row_bytes row) }
-{
-    let second = write_number(output, at, row.position)?;
-    let third = write_number(output, second, row.rank)?;
-    write_choice(output, third, row)
-}
-
-// Writes rows from `at` on, and says where they end.
-fn write_rows(output: &mut [u8], at: usize, rows: &[Row]) -> Result<usize, Refusal>
-    requires { at ≤ length output.old }
-    ensures { Puts result output.old output.new at (rows_bytes rows.now) }
-{
-    let mut at = at;
-    for row in rows {
-        at = write_row(output, at, *row)?;
-    }
-    Ok(at)
-}
-
-// Writes the number of rows and the rows, from the front on.
+// Writes the number of rows and the rows, from the front on, and says where they end.
 fn write_table(output: &mut [u8], rows: &[Row]) -> Result<usize, Refusal>
     ensures { PutsTable result output.old output.new rows.now }
 {
-    if rows.len() > MOST_ROWS {
+    let Ok(count) = u16::try_from(rows.len()) else {
         return Err(Cause::OutputTooShort.at(0));
+    };
+    let mut writer = Writer { output, at: 0 };
+    writer.number(count)?;
+    for row in rows {
+        writer.row(*row)?;
     }
-    let next = write_number(output, 0, rows.len() as u16)?;
-    write_rows(output, next, rows)
+    Ok(writer.at)
 }
 
 // Writes the table and says how many bytes it has; every byte of the output behind them is zero.
 // A table that does not fit, or has more rows than a number can hold, is refused, and the output is all zero.
+#[tactic(auto, using(crate::proofs::Laws::solution_is_audited, crate::proofs::Putting::table_leaves))]
 pub fn write(table: &Table, output: &mut [u8]) -> Result<usize, Refusal>
     ensures says { result ≡ written table.now.rows.items (length output.old) }
     ensures leaves { output.new ≡ holding table.now.rows.items (length output.old) }
     ensures audited { SolutionIsAudited }
 {
-    clear(output);
-    match write_table(output, table.rows()) {
-        Ok(end) => Ok(end),
-        Err(refusal) => {
-            clear(output);
-            Err(refusal)
-        }
+    output.fill(0);
+    let end = write_table(output, table.rows());
+    if end.is_err() {
+        output.fill(0);
     }
+    end
 }

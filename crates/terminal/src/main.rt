@@ -30,8 +30,8 @@ fn planned(roll: &PaperRoll) -> u8 {
 
 // Whether the present state of the service is one of its final states.
 fn is_final(file: &CommunityFile, roll: &PaperRoll) -> bool {
-    let state = roll.state(0);
-    state < 16 && (file.finals(0) >> state) & 1 == 1
+    let finals = file.finals(0).checked_shr(u32::from(roll.state(0)));
+    finals.is_some_and(|finals| finals & 1 == 1)
 }
 
 fn name(action: u8) -> &'static str {
@@ -55,9 +55,11 @@ fn sell(
         let verb = name(action);
         match roll.perform(0, action) {
             Ok(state) => {
-                let left = roll.left();
                 actions.push(action)?;
-                println!(rt; "step {step}: the roll {verb} and is in state {state}, {left} left")?;
+                println!(rt;
+                    "step {step}: the roll {verb} and is in state {state}, {} left",
+                    roll.left()
+                )?;
             }
             Err(refusal) => {
                 println!(rt; "step {step}: the roll {verb}: {refusal}")?;
@@ -69,22 +71,26 @@ fn sell(
     Ok(())
 }
 
+// Prints what was refused, where nothing else can be done.
+fn refused(rt: &HostRuntime, what: &str, refusal: Refusal) -> anyhow::Result<()> {
+    println!(rt; "{what} {refusal}")?;
+    Ok(())
+}
+
 fn run(rt: &HostRuntime) -> anyhow::Result<()> {
     let services = fs::read(rt, "community.bin")?;
     let text = fs::read(rt, "task.txt")?;
     let mut file = CommunityFile::zero();
     if let Err(refusal) = read_services(services.as_slice(), &mut file) {
-        println!(rt; "services {refusal}")?;
-        return Ok(());
+        return refused(rt, "services", refusal);
     }
     let mut task = Task::zero(rt.alloc());
     if let Err(refusal) = read_task(file.actions(), text.as_slice(), &mut task) {
-        println!(rt; "task {refusal}")?;
-        return Ok(());
+        return refused(rt, "task", refusal);
     }
     match PaperRoll::new(ROLL_LENGTH) {
         Ok(mut roll) => sell(rt, &task, &file, &mut roll)?,
-        Err(refusal) => println!(rt; "roll {refusal}")?,
+        Err(refusal) => refused(rt, "roll", refusal)?,
     }
     solving::solve_chart(rt)
 }

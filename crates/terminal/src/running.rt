@@ -4,15 +4,17 @@ ghost use Rattle.board.specs.Charts.{chart_arena};
 ghost use Rattle.run.specs.Run.{spent, step};
 ghost use Rattle.table.specs.Audit.{audit_of};
 
+use crate::refused;
 use board::board::Board;
 use board::chart::Chart;
 use board::table::{Row, Table};
 use run::event::{Answer, Event};
-use run::look::{Look, Phase};
+use run::look::Look;
 use run::replay::replay;
 use run::run::Run;
 use run::slip::Slip;
 use std::alloc::Global;
+use std::io;
 use table::audited::{AuditedTable, audit};
 use table::write::write;
 use wire::refusal::Refusal;
@@ -32,22 +34,11 @@ fn accepted<B: Board>(heap: Global, bytes: &[u8], board: &B) -> Result<AuditedTa
     audit(heap, bytes, board)
 }
 
-fn phase(look: Look) -> &'static str {
-    match look.phase {
-        Phase::Idle => "idle",
-        Phase::Waiting => "waiting",
-        Phase::Done => "done",
-        Phase::Abandoned => "abandoned",
-    }
-}
-
-fn show(rt: &HostRuntime, what: &str, look: Look) -> anyhow::Result<()> {
-    let number = look.number;
-    let position = look.position;
-    let count = look.count;
-    let phase = phase(look);
-    println!(rt; "{what}: run {number} at position {position}, {count} reports, {phase}")?;
-    Ok(())
+fn show(rt: &HostRuntime, what: &str, look: Look) -> io::Result<()> {
+    println!(rt;
+        "{what}: run {} at position {}, {} reports, {}",
+        look.number, look.position, look.count, look.phase
+    )
 }
 
 // Supposes the replies, and shows that the run stands as before.
@@ -56,7 +47,7 @@ fn rehearse(
     run: &mut Run,
     table: &AuditedTable,
     chart: &Chart,
-) -> anyhow::Result<()> {
+) -> io::Result<()> {
     match run.rehearse(table, chart, &REPLIES) {
         Ok((look, _)) => show(rt, "rehearsed", look)?,
         Err((refusal, entries)) => println!(rt; "rehearsed {entries}: {refusal}")?,
@@ -81,10 +72,7 @@ fn turn(
 ) -> anyhow::Result<()> {
     let (choice, slip) = match run.delegate(table, chart) {
         Ok(given) => given,
-        Err(refusal) => {
-            println!(rt; "delegate {refusal}")?;
-            return Ok(());
-        }
+        Err(refusal) => return refused(rt, "delegate", refusal),
     };
     if let Err((refusal, slip)) = report(run, slip, chart, reply) {
         if let Err((_, _back)) = run.waive(slip) {
@@ -118,17 +106,15 @@ fn play_again(rt: &HostRuntime, table: &AuditedTable, chart: &Chart) -> anyhow::
     ];
     match replay(rt.alloc(), table, chart, NUMBER, &events) {
         Ok(played) => {
-            for answer in played.answers.iter() {
+            for answer in &played.answers {
                 if let Answer::Refused { refusal } = answer {
                     println!(rt; "replayed: {refusal}")?;
                 }
             }
-            show(rt, "replayed", played.look)
-        }
-        Err(refusal) => {
-            println!(rt; "replay {refusal}")?;
+            show(rt, "replayed", played.look)?;
             Ok(())
         }
+        Err(refusal) => refused(rt, "replay", refusal),
     }
 }
 
@@ -137,10 +123,7 @@ pub(crate) fn run_table(rt: &HostRuntime, chart: &Chart, table: &Table) -> anyho
     let mut bytes = [0; BUFFER];
     let length = match write(table, &mut bytes) {
         Ok(length) => length,
-        Err(refusal) => {
-            println!(rt; "write {refusal}")?;
-            return Ok(());
-        }
+        Err(refusal) => return refused(rt, "write", refusal),
     };
     let written = bytes
         .iter()
@@ -157,9 +140,6 @@ pub(crate) fn run_table(rt: &HostRuntime, chart: &Chart, table: &Table) -> anyho
             show(rt, "then", run.look())?;
             play_again(rt, &audited, chart)
         }
-        Err(refusal) => {
-            println!(rt; "audit {refusal}")?;
-            Ok(())
-        }
+        Err(refusal) => refused(rt, "audit", refusal),
     }
 }

@@ -1,8 +1,7 @@
 -- One turn of a loop of steps that can refuse.
-use Rattle.std.proofs.Common.{◌≡◌, ℕ, suc, ◌+◌, ◌-◌, ◌<◌, IsErrAnd, Ok, Err, Result, sym, ap, ◌∙◌, subst, arith}
-use Rattle.std.proofs.lemmas.Result.{err_from_is_err_and}
+use Rattle.std.proofs.Common.{◌≡◌, ℕ, suc, ◌+◌, ◌-◌, ◌<◌, Ok, Err, Result, ap, ◌∙◌, arith}
 use Rattle.wire.specs.declared.refusal.Refusal.{Refusal}
-use Rattle.wire.specs.Reading.{and_then, steps, filling}
+use Rattle.wire.specs.Reading.{and_then, steps}
 
 module _ {S : Type 0} (f : ℕ → S → Result S Refusal) (n i : ℕ) (s : S) (h : i < n) where
   pub opened : steps f (n - i) i s ≡ and_then (f i s) (steps f (n - (i + 1)) (i + 1))
@@ -13,7 +12,3 @@ module _ {S : Type 0} (f : ℕ → S → Result S Refusal) (n i : ℕ) (s : S) (
 
   pub stops : (e : Refusal) → f i s ≡ Err e → steps f (n - i) i s ≡ Err e
   stops e p = opened ∙ ap (λ r. and_then r (steps f (n - (i + 1)) (i + 1))) p
-
--- the exit of a `?` in the loop
-pub fails : {X : Type 0} (r : Result ℕ Refusal) (x : X) (q : Result (ℕ × X) Refusal) (e : Refusal) → IsErrAnd r (λ y. y ≡ e) → q ≡ Err e → filling r x q
-fails r x q e b w = let p = err_from_is_err_and r b in subst (λ z. filling z x q) (sym (p.1 ∙ ap Err p.2)) w

@@ -1,11 +1,10 @@
 -- Bytes written from a place on: they stand there, and all else is as it was.
-use Rattle.std.proofs.Common.{◌≡◌, ℕ, ◌+◌, ◌<◌, ◌≤◌, ◌≢◌, List, [], ◌∷◌, ◌++◌, length, get_or, take, drop, set, IfOk, Ok, Err, Result, sym, refl, ap, ◌∙◌, add-zero, arith, length-set, get_or-set_other, get_or-set_same, drop-set-lt, MatchResult}
+use Rattle.std.proofs.Common.{◌≡◌, ℕ, ◌+◌, ◌<◌, ◌≤◌, ◌≢◌, List, [], ◌∷◌, ◌++◌, length, get_or, take, drop, set, IfOk, Ok, Err, Result, sym, refl, ap, ◌∙◌, add-zero, arith, length-set, get_or-set_other, get_or-set_same, drop-set-lt}
 use lib.Seq.{take-set-le}
-use Rattle.std.proofs.lemmas.List.{drop_more}
-use Rattle.wire.specs.declared.refusal.Cause.TheVariants as cause
+use borrow.Rule.Slice.PartMut.{put_mid}
+use Rattle.std.proofs.lemmas.List.{drop_more, drop-drop, take-append-drop}
 use Rattle.wire.specs.declared.refusal.Refusal.{Refusal}
-use Rattle.wire.specs.Refusals.{refused}
-use Rattle.wire.specs.Number.{largest, groups, put_at, Written}
+use Rattle.wire.specs.Number.{largest, groups, put_at, Puts, Written}
 use Rattle.wire.proofs.Numbers.{number_read}
 
 length_put : (xs : List ℕ) (i : ℕ) (bs : List ℕ) → length (put_at xs i bs) ≡ length xs
@@ -36,11 +35,13 @@ at_put xs i (b ∷ bs) h =
     ∙ ap (λ x. x ∷ drop (i + 1) ys) (get_or_put i (set xs i b) (i + 1) bs (omega arith) ∙ get_or-set_same xs i b 0 (omega arith))
     ∙ ap (λ t. b ∷ t) (at_put (set xs i b) (i + 1) bs (omega (arith, length-set xs i b)) ∙ ap (λ t. bs ++ t) (drop-set-lt (i + 1 + length bs) xs i b (omega arith) ∙ ap (λ m. drop m xs) far))
 
--- what `put_groups` answers and leaves
-abbrev Puts : List ℕ → List ℕ → ℕ → ℕ → Result ℕ Refusal → Type 0
-Puts before after at n r = MatchResult r (λ e. (e ≡ at + length (groups n)) × (e ≤ length before) × (after ≡ put_at before at (groups n))) (λ e. (e ≡ refused cause.OutputTooShort 0) × (length before < at + length (groups n)) × (after ≡ before))
+-- a part of a list that was overwritten with as many bytes
+pub overwritten : (xs ys bs : List ℕ) (at k : ℕ) → ys ≡ bs → k ≡ length bs → at + length bs ≤ length xs → put_mid at k xs ys ≡ put_at xs at bs
+overwritten xs ys bs at k e p h =
+    ap (λ l. take at xs ++ l) (λ i. e i ++ (drop-drop k at xs ∙ ap (λ m. drop (at + m) xs) p) i)
+    ∙ sym (sym (take-append-drop at (put_at xs at bs)) ∙ (λ i. take_put at xs at bs (omega arith) i ++ at_put xs at bs h i))
 
-pub written : (before after : List ℕ) (at n : ℕ) → n ≤ largest → (r : Result ℕ Refusal) → Puts before after at n r → IfOk r (λ e. Written before after at n e)
+pub written : (before after : List ℕ) (at n : ℕ) → n ≤ largest → (r : Result ℕ Refusal) → Puts before after at (groups n) r → IfOk r (λ e. Written before after at n e)
 written before after at n h (Err e) p = tt
 written before after at n h (Ok e) p =
     let fits : at + length (groups n) ≤ length before = omega (arith, p.0, p.1) in

@@ -74,6 +74,11 @@ abbrev pub put_at : List ℕ → ℕ → List ℕ → List ℕ
 put_at xs i [] = xs
 put_at xs i (b ∷ bs) = put_at (slice_set xs i b) (i + 1) bs
 
+-- what a writer of bytes answers and leaves: where they end, and the bytes in their place; or nothing where they do not fit
+abbrev pub Puts : List ℕ → List ℕ → ℕ → List ℕ → Result ℕ Refusal → Type 0
+Puts before after at bs (Ok e) = (e ≡ at + length bs) × (e ≤ length before) × (after ≡ put_at before at bs)
+Puts before after at bs (Err e) = (e ≡ refused cause.OutputTooShort 0) × (length before < at + length bs) × (after ≡ before)
+
 -- what is written is read back, whatever follows it
 abbrev pub RoundTrip : Type 0
 RoundTrip = (n : ℕ) (rest : List ℕ) → n ≤ largest → read_number (groups n ++ rest) ≡ value n rest

@@ -1,5 +1,5 @@
 -- Readers as functions into a result: one part after another, the first refusal ends it.
-use Rattle.std.specs.Prelude.{◌≡◌, ℕ, zero, suc, ◌+◌, Ok, Err, Result}
+use Rattle.std.specs.Prelude.{ℕ, zero, suc, ◌+◌, Ok, Err, Result}
 use Rattle.wire.specs.declared.refusal.Refusal.{Refusal}
 
 abbrev pub and_then : {X Y : Type 0} → Result X Refusal → (X → Result Y Refusal) → Result Y Refusal
@@ -20,8 +20,3 @@ answer (Err e) = Err e
 abbrev pub left : {X : Type 0} → X → Result X Refusal → X
 left zeroed (Ok x) = x
 left zeroed (Err e) = zeroed
-
--- what an inner reader leaves that answered where it ends: after a refusal the output may hold anything
-abbrev pub filling : {X : Type 0} → Result ℕ Refusal → X → Result (ℕ × X) Refusal → Type 0
-filling (Ok n) x q = q ≡ Ok (n, x)
-filling (Err e) x q = q ≡ Err e

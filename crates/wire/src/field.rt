@@ -6,18 +6,14 @@ use crate::number::number_at;
 use crate::refusal::{Cause, Refusal};
 
 // The number at `at`, which lies from `low` to `high`, and where it ends.
+// Bytes and place stay apart in this public call, and in `number_at`; `Reader` has them together.
 pub fn read_field(bytes: &[u8], at: usize, low: u16, high: u16) -> Result<(u16, usize), Refusal>
     ensures value { result ≡ field bytes.now at low high }
     ensures within { IfOk result (λ p. (low ≤ p.0) × (p.0 ≤ high)) }
 {
-    match number_at(bytes, at) {
-        Ok((v, next)) => {
-            if v < low || v > high {
-                Err(Cause::OutsideField.at(at))
-            } else {
-                Ok((v, next))
-            }
-        }
-        Err(e) => Err(e),
+    let (n, next) = number_at(bytes, at)?;
+    if n < low || n > high {
+        return Err(Cause::OutsideField.at(at));
     }
+    Ok((n, next))
 }

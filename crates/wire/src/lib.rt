@@ -3,4 +3,5 @@
 
 pub mod field;
 pub mod number;
+pub mod reader;
 pub mod refusal;

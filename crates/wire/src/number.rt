@@ -1,17 +1,18 @@
 // Numbers in groups of seven bits, lowest group first.
-ghost use Rattle.std.specs.Prelude.{◌≡◌, ◌+◌, ◌<◌, ◌≤◌, length, IfOk, MatchResult};
-ghost use Rattle.wire.specs.Number.{Begins, RefusedNumber, Shortest, Written, groups, read_number, value, refusal, number_at, put_at};
-ghost use Rattle.wire.specs.Refusals.{refused};
+ghost use Rattle.std.specs.Prelude.{◌≡◌, IfOk, MatchResult};
+ghost use Rattle.wire.specs.Number.{Begins, RefusedNumber, Shortest, Written, groups, read_number, value, refusal, number_at, Puts};
 
 use crate::refusal::{Cause, Refusal};
 
 // The largest third group: 65,535 has 3 there.
 const LAST_GROUP: u8 = 3;
 
-// Takes the one to three groups of a number off the front of `bytes`.
-fn split_groups(bytes: &[u8]) -> Result<(u16, &[u8]), Cause>
+// The number at the front of `bytes`, and what follows it.
+#[tactic(auto, using(crate::proofs::Shortest::shortest, crate::proofs::Groups::one, crate::proofs::Groups::two, crate::proofs::Groups::three))]
+pub fn read_number(bytes: &[u8]) -> Result<(u16, &[u8]), Cause>
     ensures reads { MatchResult result (λ p. read_number bytes.now ≡ value p.0 p.1.now) (λ e. read_number bytes.now ≡ refusal e) }
     ensures means { MatchResult result (λ p. Begins bytes.now p.0 p.1.now) (λ e. RefusedNumber bytes.now e) }
+    ensures shortest { Shortest }
 {
     match bytes {
         [] => Err(Cause::BytesRunOut),
@@ -33,66 +34,51 @@ fn split_groups(bytes: &[u8]) -> Result<(u16, &[u8]), Cause>
     }
 }
 
-// The number at the front of `bytes`, and what follows it.
-pub fn read_number(bytes: &[u8]) -> Result<(u16, &[u8]), Cause>
-    ensures reads { MatchResult result (λ p. read_number bytes.now ≡ value p.0 p.1.now) (λ e. read_number bytes.now ≡ refusal e) }
-    ensures means { MatchResult result (λ p. Begins bytes.now p.0 p.1.now) (λ e. RefusedNumber bytes.now e) }
-    ensures shortest { Shortest }
-{
-    split_groups(bytes)
-}
-
 // The number that begins at `at`, and where it ends.
+#[tactic(auto, unfolding(crate::specs::Number::number_at))]
 pub fn number_at(bytes: &[u8], at: usize) -> Result<(u16, usize), Refusal>
     ensures { result ≡ number_at bytes.now at }
 {
-    if at > bytes.len() {
+    let Some(from) = bytes.get(at..) else {
         return Err(Cause::BytesRunOut.at(at));
-    }
-    match read_number(&bytes[at..]) {
-        Ok((v, rest)) => Ok((v, bytes.len() - rest.len())),
-        Err(e) => Err(e.at(at)),
+    };
+    match read_number(from) {
+        Ok((n, rest)) => Ok((n, bytes.len() - rest.len())),
+        Err(cause) => Err(cause.at(at)),
     }
 }
 
-// Puts the groups of `n` from `at` on.
-fn put_groups(out: &mut [u8], at: usize, n: u16) -> Result<usize, Refusal>
-    ensures { MatchResult result (λ e. (e ≡ at + length (groups n)) × (e ≤ length out.old) × (out.new ≡ put_at out.old at (groups n))) (λ e. (e ≡ refused Cause.OutputTooShort 0) × (length out.old < at + length (groups n)) × (out.new ≡ out.old)) }
+// Writes the bytes from `at` on and says where they end; where they do not fit, writes nothing.
+fn put(out: &mut [u8], at: usize, bytes: &[u8]) -> Result<usize, Refusal>
+    ensures { Puts out.old out.new at bytes.now result }
 {
     let room = out.len();
-    if at > room {
+    if at > room || bytes.len() > room - at {
         return Err(Cause::OutputTooShort.at(0));
     }
-    let left = room - at;
-    if n < 128 {
-        if left < 1 {
-            return Err(Cause::OutputTooShort.at(0));
-        }
-        out[at] = n as u8;
-        Ok(at + 1)
-    } else if n < 16384 {
-        if left < 2 {
-            return Err(Cause::OutputTooShort.at(0));
-        }
-        out[at] = (n % 128 + 128) as u8;
-        out[at + 1] = (n / 128) as u8;
-        Ok(at + 2)
-    } else {
-        if left < 3 {
-            return Err(Cause::OutputTooShort.at(0));
-        }
-        out[at] = (n % 128 + 128) as u8;
-        out[at + 1] = (n / 128 % 128 + 128) as u8;
-        out[at + 2] = (n / 16384) as u8;
-        Ok(at + 3)
-    }
+    let end = at + bytes.len();
+    out[at..end].copy_from_slice(bytes);
+    Ok(end)
 }
 
 // Writes `n` from `at` on and says where it ends; where it does not fit, writes nothing.
+#[tactic(auto, using(crate::proofs::Shortest::shortest, crate::proofs::Written::written))]
 pub fn write_number(out: &mut [u8], at: usize, n: u16) -> Result<usize, Refusal>
-    ensures writes { MatchResult result (λ e. (e ≡ at + length (groups n)) × (e ≤ length out.old) × (out.new ≡ put_at out.old at (groups n))) (λ e. (e ≡ refused Cause.OutputTooShort 0) × (length out.old < at + length (groups n)) × (out.new ≡ out.old)) }
+    ensures writes { Puts out.old out.new at (groups n) result }
     ensures reads_back { IfOk result (λ e. Written out.old out.new at n e) }
     ensures shortest { Shortest }
 {
-    put_groups(out, at, n)
+    match n {
+        0..=127 => put(out, at, &[n as u8]),
+        128..=16383 => put(out, at, &[(n % 128 + 128) as u8, (n / 128) as u8]),
+        _ => put(
+            out,
+            at,
+            &[
+                (n % 128 + 128) as u8,
+                (n / 128 % 128 + 128) as u8,
+                (n / 16384) as u8,
+            ],
+        ),
+    }
 }

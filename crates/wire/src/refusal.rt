@@ -58,18 +58,13 @@ pub struct Refusal {
 }
 
 impl Cause {
-    fn discriminant(self) -> u8
-        ensures { result ≡ number_of self }
-    {
-        self as u8
-    }
-
     // The refusal number; no two causes have one.
+    #[tactic(auto, using(crate::proofs::Causes::numbers_differ))]
     pub fn number(self) -> u8
         ensures number { result ≡ number_of self }
         ensures apart { NumbersDiffer }
     {
-        self.discriminant()
+        self as u8
     }
 
     // A refusal for this cause at `place`.
@@ -81,6 +76,7 @@ impl Cause {
 }
 
 // Two causes are the same exactly where their numbers are.
+// Not derived: a derived `==` has no clause that says it is exact, and callers lean on one.
 impl PartialEq for Cause {
     ghost eq = { on number_of nat_eq };
 
@@ -94,7 +90,7 @@ impl PartialEq for Cause {
     }
 }
 
-// Two refusals are the same exactly where their causes and places are.
+// Two refusals are the same exactly where their causes and places are. Not derived, for the same reason.
 impl PartialEq for Refusal {
     ghost eq = { eq_of_both (on (λ r. r.cause) (on number_of nat_eq)) (on (λ r. r.place) nat_eq) };
 
@@ -112,20 +108,16 @@ impl fmt::Display for Refusal {
     ghost output = { λ r. Some (shown_text r) };
 
     fn fmt<W: fmt::Write>(&self, f: &mut fmt::Formatter<W>) -> fmt::Result {
-        let number = self.cause.number();
-        let place = self.place;
-        write!(f, "refused {number} at {place}")
+        write!(f, "refused {} at {}", self.cause.number(), self.place)
     }
 }
 
+// Two errors say that memory is wanting, and `?` asks for an impl for each.
 impl From<AllocError> for Refusal {
     ghost from_gives = { λ _ r. r ≡ no_memory };
 
     fn from(_e: AllocError) -> Refusal {
-        Refusal {
-            cause: Cause::OutOfMemory,
-            place: 0,
-        }
+        Cause::OutOfMemory.at(0)
     }
 }
 
@@ -133,9 +125,6 @@ impl<T: Drop> From<AllocFailed<T>> for Refusal {
     ghost from_gives = { λ _ r. r ≡ no_memory };
 
     fn from(_e: AllocFailed<T>) -> Refusal {
-        Refusal {
-            cause: Cause::OutOfMemory,
-            place: 0,
-        }
+        Cause::OutOfMemory.at(0)
     }
 }

@@ -1,51 +1,48 @@
 // Reading a chart file.
-ghost use Rattle.std.specs.Prelude.{◌≡◌, ◌≤◌, []};
-ghost use Rattle.board.specs.Reading.{positions_of, sheet_of, Placed, Filled, ReadsSheet};
+ghost use Rattle.std.specs.Prelude.{◌≡◌};
+ghost use Rattle.board.specs.Spot.{spots};
+ghost use Rattle.board.specs.Reading.{Reads, ReadsTo, spots_of, sheet_of, ReadsSheet};
 ghost use Rattle.board.specs.Charts.{sheet, chart_arena};
 ghost use Rattle.board.specs.ChartFile.{ChartLaw};
 
-use crate::chart::Chart;
-use crate::place::reader::read_place;
-use crate::place::{MOST_CHOICES, Place};
-use wire::field::read_field;
-use wire::refusal::{Cause, Refusal};
+use crate::chart::{Chart, Size};
+use crate::spot::Spot;
+use spot::read_spot;
+use std::alloc::Global;
+use wire::reader::Reader;
+use wire::refusal::Refusal;
 
-// The most positions of a chart.
+mod spot;
+
+// The most positions of a chart, and the most choices.
 const MOST_POSITIONS: u16 = 256;
 
-// Reads so many positions into an empty list, and says where they end.
-fn read_places(
-    bytes: &[u8],
-    at: usize,
-    positions: u16,
-    choices: u16,
-    places: &mut Vec<Place>,
-) -> Result<usize, Refusal>
-    requires limits { (1 ≤ positions) × ((positions ≤ 256) × (choices ≤ 8)) }
-    requires empty { places.old.items ≡ [] }
-    ensures { Placed result places.new.items (positions_of bytes.now positions choices at) }
+const MOST_CHOICES: u16 = 8;
+
+// Each position. One function for this and `read_choices` would be no plainer: its contract would have to say what a closure reads.
+#[tactic(auto, using(wire::proofs::Loops::opened, std::proofs::lemmas::List::map_push))]
+fn read_spots(reader: &mut Reader, size: Size, heap: Global) -> Result<Vec<Spot>, Refusal>
+    ensures reads { ReadsTo spots result reader.new.at (spots_of reader.old.bytes.now size.positions size.choices reader.old.at) }
+    ensures bytes { reader.new.bytes.now ≡ reader.old.bytes.now }
 {
-    let mut at = at;
-    for i in 0..positions {
-        let (place, next) = read_place(bytes, at, positions, choices)?;
-        places.push(place)?;
-        at = next;
+    let mut spots = Vec::new(heap);
+    for _ in 0..size.positions {
+        spots.push(read_spot(reader, size, heap)?)?;
     }
-    Ok(at)
+    Ok(spots)
 }
 
-// Reads the whole file into an empty list, and answers the numbers of positions and choices.
-fn fill(bytes: &[u8], places: &mut Vec<Place>) -> Result<(u16, u8), Refusal>
-    requires { places.old.items ≡ [] }
-    ensures { Filled result places.new.items (sheet_of bytes.now) }
+// The whole file.
+fn read_whole(bytes: &[u8], heap: Global) -> Result<Chart, Refusal>
+    ensures { Reads sheet result (sheet_of bytes.now) }
 {
-    let (positions, second) = read_field(bytes, 0, 1, MOST_POSITIONS)?;
-    let (choices, third) = read_field(bytes, second, 1, MOST_CHOICES as u16)?;
-    let end = read_places(bytes, third, positions, choices, places)?;
-    if end < bytes.len() {
-        return Err(Cause::BytesLeftOver.at(end));
-    }
-    Ok((positions, choices as u8))
+    let mut reader = Reader::new(bytes);
+    let positions = reader.field(1, MOST_POSITIONS)?;
+    let choices = reader.field(1, MOST_CHOICES)?;
+    let size = Size { positions, choices };
+    let spots = read_spots(&mut reader, size, heap)?;
+    reader.finish()?;
+    Ok(Chart { size, spots })
 }
 
 // Reads a chart file into `out`, which is the zero chart after any refusal.
@@ -53,18 +50,8 @@ pub fn read_chart(bytes: &[u8], out: &mut Chart) -> Result<(), Refusal>
     ensures reads { ReadsSheet bytes.now result (sheet out.new) }
     ensures law { ChartLaw bytes.now result (chart_arena out.new) }
 {
-    out.positions = 1;
-    out.choices = 1;
-    out.places.clear();
-    match fill(bytes, &mut out.places) {
-        Ok((positions, choices)) => {
-            out.positions = positions;
-            out.choices = choices;
-            Ok(())
-        }
-        Err(refusal) => {
-            out.places.clear();
-            Err(refusal)
-        }
-    }
+    let heap = *out.spots.allocator();
+    *out = Chart::zero(heap);
+    *out = read_whole(bytes, heap)?;
+    Ok(())
 }

@@ -4,7 +4,7 @@ ghost use Rattle.board.specs.Charts.{sheet, chart_arena, chart_lawful};
 ghost use Rattle.board.specs.Reading.{zero_sheet};
 
 use crate::board::Board;
-use crate::chart::Chart;
+use crate::chart::{Chart, Size};
 use std::alloc::Global;
 
 impl Chart {
@@ -13,9 +13,11 @@ impl Chart {
         ensures { sheet result ≡ zero_sheet }
     {
         Chart {
-            positions: 1,
-            choices: 1,
-            places: Vec::new(heap),
+            size: Size {
+                positions: 1,
+                choices: 1,
+            },
+            spots: Vec::new(heap),
         }
     }
 }
@@ -26,21 +28,20 @@ impl Board for Chart {
     ghost lawful = { chart_lawful };
 
     fn positions(&self) -> usize {
-        self.positions as usize
+        usize::from(self.size.positions)
     }
 
     fn choices(&self) -> usize {
-        self.choices as usize
+        usize::from(self.size.choices)
     }
 
     fn is_done(&self, position: usize) -> bool {
-        position < self.places.len() && self.places[position].done
+        self.spots.get(position).is_some_and(|spot| spot.is_done())
     }
 
     fn outcomes(&self, position: usize, choice: usize) -> &[u16] {
-        if position >= self.places.len() {
-            return &[];
-        }
-        self.places[position].outcomes(choice)
+        self.spots
+            .get(position)
+            .map_or(&[], |spot| spot.outcomes(choice))
     }
 }

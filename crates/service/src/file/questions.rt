@@ -1,4 +1,4 @@
-// Questions of a services file. Out of range they answer 0.
+// Questions of a services file. Out of range they answer 0, as every community does.
 ghost use Rattle.std.specs.Prelude.{◌≡◌, MatchOption};
 ghost use Rattle.service.specs.File.{contents, no_service, zero_file};
 ghost use Rattle.service.specs.FileTables.{service_at, tables_of, initial_of, finals_of};
@@ -35,38 +35,26 @@ impl CommunityFile {
     fn service(&self, service: u8) -> Option<&Service>
         ensures { MatchOption result (service_at (contents self.now) service ≡ no_service) (λ x. x.now ≡ service_at (contents self.now) service) }
     {
-        if service >= self.count {
-            return None;
-        }
-        self.services.get(service as usize)
+        self.services[..usize::from(self.count)].get(usize::from(service))
     }
 
     pub fn states(&self, service: u8) -> u8
         ensures { result ≡ (tables_of (contents self.now)).states service }
     {
-        match self.service(service) {
-            Some(x) => x.states(),
-            None => 0,
-        }
+        self.service(service).map_or(0, Service::states)
     }
 
     pub fn initial(&self, service: u8) -> u8
         ensures { result ≡ initial_of (contents self.now) service }
     {
-        match self.service(service) {
-            Some(x) => x.initial(),
-            None => 0,
-        }
+        self.service(service).map_or(0, Service::initial)
     }
 
     // The set of final states.
     pub fn finals(&self, service: u8) -> u16
         ensures { result ≡ finals_of (contents self.now) service }
     {
-        match self.service(service) {
-            Some(x) => x.finals(),
-            None => 0,
-        }
+        self.service(service).map_or(0, Service::finals)
     }
 
     // The set of next states of a service from a state by an action.
@@ -74,14 +62,8 @@ impl CommunityFile {
         ensures { result ≡ (tables_of (contents self.now)).entry service state action }
     {
         match self.service(service) {
-            Some(x) => {
-                if state < x.states() && action < self.actions {
-                    x.entry(state, action)
-                } else {
-                    0
-                }
-            }
-            None => 0,
+            Some(x) if state < x.states() && action < self.actions => x.entry(state, action),
+            _ => 0,
         }
     }
 }

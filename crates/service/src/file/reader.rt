@@ -1,26 +1,28 @@
 // Reading a services file.
-ghost use Rattle.std.specs.Prelude.{◌≡◌, ◌≤◌};
-ghost use Rattle.wire.specs.Reading.{filling, answer, left};
+ghost use Rattle.std.specs.Prelude.{◌≡◌};
+ghost use Rattle.wire.specs.Reading.{answer, left};
 ghost use Rattle.service.specs.FileTables.{ServicesLawful};
-ghost use Rattle.service.specs.File.{contents, services_of, file_of, zero_file, Whole, ServicesLaw};
+ghost use Rattle.service.specs.File.{Fills, contents, services_of, file_of, zero_file, Whole, ServicesLaw};
 
 use super::CommunityFile;
 use crate::limits::{MAX_ACTIONS, MAX_SERVICES};
 use crate::service::fill;
-use wire::field::read_field;
-use wire::refusal::{Cause, Refusal};
+use wire::reader::Reader;
+use wire::refusal::Refusal;
 
 impl CommunityFile {
-    // Reads the first `n` services, each lent to the function that fills it.
-    fn fill_services(&mut self, n: u16, k: u16, bytes: &[u8], at: usize) -> Result<usize, Refusal>
-        requires { (n ≤ 8) × (k ≤ 16) }
-        ensures { filling result self.new.services (services_of bytes.now n k at self.old.services) }
+    // Reads the services, each lent to the function that fills it.
+    fn fill_services(&mut self, reader: &mut Reader) -> Result<(), Refusal>
+        ensures fills { Fills result reader.new.at self.new.services (services_of reader.old.bytes.now self.old.count self.old.actions reader.old.at self.old.services) }
+        ensures bytes { reader.new.bytes.now ≡ reader.old.bytes.now }
+        ensures shape { (self.new.count ≡ self.old.count) × (self.new.actions ≡ self.old.actions) }
     {
-        let mut at = at;
-        for i in 0..n {
-            at = fill(&mut self.services[i as usize], k, bytes, at)?;
+        // by index: the struct has an invariant, and so a proof does not know what `iter_mut`, or a loop over a slice of the
+        // array, leaves there
+        for i in 0..usize::from(self.count) {
+            fill(&mut self.services[i], self.actions, reader)?;
         }
-        Ok(at)
+        Ok(())
     }
 
     // Reads the whole file into a zeroed one.
@@ -28,15 +30,11 @@ impl CommunityFile {
         requires { contents self.old ≡ zero_file }
         ensures { Whole result (contents self.new) (file_of bytes.now) }
     {
-        let (n, second) = read_field(bytes, 0, 1, MAX_SERVICES as u16)?;
-        let (k, third) = read_field(bytes, second, 1, MAX_ACTIONS as u16)?;
-        let end = self.fill_services(n, k, bytes, third)?;
-        if end < bytes.len() {
-            return Err(Cause::BytesLeftOver.at(end));
-        }
-        self.count = n as u8;
-        self.actions = k as u8;
-        Ok(())
+        let mut reader = Reader::new(bytes);
+        self.count = reader.field(1, MAX_SERVICES as u16)? as u8;
+        self.actions = reader.field(1, MAX_ACTIONS as u16)? as u8;
+        self.fill_services(&mut reader)?;
+        reader.finish()
     }
 }
 

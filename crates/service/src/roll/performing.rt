@@ -13,10 +13,10 @@ const ACTIONS: u8 = 2;
 
 const STATES: u8 = 2;
 
-// The sets of next states: printing leaves some paper or none, loading leaves some.
-const EITHER: u16 = 3;
+// The sets of next states: loading leaves some paper, printing some or none.
+const PAPER: u16 = 1 << HAS_PAPER;
 
-const PAPER: u16 = 1;
+const EITHER: u16 = PAPER | (1 << IS_OUT);
 
 impl PaperRoll {
     // The present state.
@@ -64,14 +64,16 @@ impl Community for PaperRoll {
         ensures answers { (result, self.new.left) ≡ rolled self.old.length self.old.left service action }
         ensures length { self.new.length ≡ self.old.length }
     {
-        if service == 0 && action == PRINTING && self.left > 0 {
-            self.left -= 1;
-            return Ok(self.paper());
+        match (service, self.paper(), action) {
+            (0, HAS_PAPER, PRINTING) => {
+                self.left -= 1;
+                Ok(self.paper())
+            }
+            (0, IS_OUT, LOADING) => {
+                self.left = self.length;
+                Ok(HAS_PAPER)
+            }
+            _ => Err(Cause::CannotPerform.at(0)),
         }
-        if service == 0 && action == LOADING && self.left == 0 {
-            self.left = self.length;
-            return Ok(HAS_PAPER);
-        }
-        Err(Cause::CannotPerform.at(0))
     }
 }

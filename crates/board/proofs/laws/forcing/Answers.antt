@@ -1,4 +1,4 @@
-use Rattle.board.proofs.Ranks.{every_play_succeeds, forces_is_within}
+use Rattle.board.proofs.Ranking.{every_play_succeeds, forces_is_within}
 use Rattle.board.proofs.laws.forcing.Goals as goal
 
 pub returns : goal.returns

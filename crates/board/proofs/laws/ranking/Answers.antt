@@ -1,4 +1,4 @@
-use Rattle.board.proofs.Ranks.{won_is_forced, ranked_is_forced, rank_is_least, hopeless}
+use Rattle.board.proofs.Ranking.{won_is_forced, ranked_is_forced, rank_is_least, hopeless}
 use Rattle.board.proofs.laws.ranking.Goals as goal
 
 pub returns : goal.returns

@@ -1,4 +1,4 @@
-use Rattle.board.proofs.Ranks.{rounds_end, law_of_rounds}
+use Rattle.board.proofs.Ranking.{rounds_end, law_of_rounds}
 use Rattle.board.proofs.laws.rounding.Goals as goal
 
 pub returns : goal.returns

@@ -1,51 +1,45 @@
-use Rattle.std.proofs.Common.{◌≡◌, ◌+◌, [], length, get_or, Err, vec_items, sym, ap, ◌∙◌, subst, inl, arith}
-use Rattle.ltlf.specs.Prefix.{sign_node}
-use Rattle.ltlf.specs.Steps.{Grown}
+use Rattle.std.proofs.Common.{◌≡◌, ℕ, suc, ◌+◌, ◌<◌, List, [], length, get_or, drop, Err, vec_items, sym, ap, ◌∙◌, subst, inl, rules}
+use Rattle.ltlf.specs.Prefix.{sign_node, node_of, judge, start}
+use Rattle.ltlf.specs.Steps.{Skipped, Grown, seen}
 use Rattle.ltlf.proofs.Signs.{of_byte}
-use Rattle.ltlf.proofs.Endings.{origin, behind_unknown, behind_more, read_through}
+use Rattle.ltlf.proofs.Endings.{origin, behind_unknown, behind_more}
 use Rattle.ltlf.proofs.reader.read_whole.Goals as goal
+use Rattle.ltlf.proofs.reader.read_whole.Goals.{After-node_of}
 
-pub returns-in-None : goal.returns-in-None
-returns-in-None c =
-    let k = c.args.actions in
-    let bs = c.args.text.now in
-    let q = c.read_formula.new.progress in
-    let ys = vec_items c.read_formula.new.nodes in
-    let i = c.skip_blanks-at.result in
-    let w = c.in_ok-read_formula.ensures.grows in
-    let g = subst (λ ns. Grown k bs 16 origin q ns ys w.0) c.requires w.1 in
-    let many : c.len.result ≡ length ys = c.len.ensures ∙ c.read_formula.new.nodes.ok.0 in
-    let none = of_byte (get_or bs i 0) (length ys) _ (c.in-None.ensures ∙ ap (λ m. sign_node (get_or bs i 0) (m + 1)) many) in
-    record {
-      whole = inl (behind_unknown k bs q (length ys) i c.skip_blanks-at.ensures (g.verdict []) c.if-at-text.true none ∙ sym (ap Err c.at.ensures));
-      few = c.in_ok-read_formula.ensures.few;
-    }
+module _ (c : After-node_of) where
+  abbrev bs : List ℕ
+  bs = c.args.text.now
 
-pub returns-in-Some : goal.returns-in-Some
-returns-in-Some c =
-    let k = c.args.actions in
-    let bs = c.args.text.now in
-    let q = c.read_formula.new.progress in
-    let ys = vec_items c.read_formula.new.nodes in
-    let i = c.skip_blanks-at.result in
-    let w = c.in_ok-read_formula.ensures.grows in
-    let g = subst (λ ns. Grown k bs 16 origin q ns ys w.0) c.requires w.1 in
-    let many : c.len.result ≡ length ys = c.len.ensures ∙ c.read_formula.new.nodes.ok.0 in
-    let some = of_byte (get_or bs i 0) (length ys) _ (c.in-Some.ensures ∙ ap (λ m. sign_node (get_or bs i 0) (m + 1)) many) in
-    record {
-      whole = inl (behind_more k bs q (length ys) i c.skip_blanks-at.ensures (g.verdict []) c.if-at-text.true c.in-Some.field-0 some ∙ sym (ap Err c.at-in-Some.ensures));
-      few = c.in_ok-read_formula.ensures.few;
-    }
+  abbrev many : ℕ
+  many = length (vec_items c.formula.new.nodes)
 
-pub returns : goal.returns
-returns c =
-    let k = c.args.actions in
-    let bs = c.args.text.now in
-    let q = c.read_formula.new.progress in
-    let ys = vec_items c.read_formula.new.nodes in
-    let w = c.in_ok-read_formula.ensures.grows in
-    let g = subst (λ ns. Grown k bs 16 origin q ns ys w.0) c.requires w.1 in
-    record {
-      whole = read_through k bs q ys w.0 c.skip_blanks-at.result g c.skip_blanks-at.ensures c.if-at-text.false (omega (arith, c.in_ok-read_formula.ensures.few, c.read_formula.new.nodes.ok.0));
-      few = c.in_ok-read_formula.ensures.few;
-    }
+  abbrev i : ℕ
+  i = c.past_blanks-at.result
+
+  behind : Skipped bs c.formula.new.self.progress.at i
+  behind = subst (λ t. Skipped t c.formula.new.self.progress.at i) c.formula.ensures.same_text c.past_blanks-at.ensures
+
+  read : judge c.args.actions start 0 bs ≡ judge c.args.actions (seen c.formula.new.self.progress many []) c.formula.new.self.progress.at (drop c.formula.new.self.progress.at bs)
+  read =
+      let w = c.in_ok-formula.ensures.grows in
+      (subst (λ ns. Grown c.args.actions bs 16 origin c.formula.new.self.progress ns (vec_items c.formula.new.nodes) w.0) c.requires w.1).verdict []
+
+  inside : i < length bs
+  inside = search rules
+
+  -- the node of the byte behind the formula and the blanks
+  sign : node_of (get_or bs i 0) (suc many) ≡ c.node_of.result
+  sign =
+      let byte : c.from.result ≡ get_or bs i 0 = search rules in
+      let as_many : c.len.result ≡ many = c.len.ensures ∙ c.formula.new.nodes.ok.0 in
+      of_byte (get_or bs i 0) many _ (c.node_of.ensures ∙ (λ j. sign_node (byte j) (as_many j + 1)))
+
+pub returns-in-None-clause-whole : goal.returns-in-None-clause-whole
+returns-in-None-clause-whole c =
+    let a = (goal.at.returns-in-None-clause-whole c).After-node_of in
+    inl (behind_unknown c.args.actions (bs a) c.formula.new.self.progress (many a) (i a) (behind a) (read a) (inside a) (sign a ∙ c.in-None.is) ∙ sym (ap Err c.at.ensures))
+
+pub returns-in-Some-node_of-clause-whole : goal.returns-in-Some-node_of-clause-whole
+returns-in-Some-node_of-clause-whole c =
+    let a = (goal.at.returns-in-Some-node_of-clause-whole c).After-node_of in
+    inl (behind_more c.args.actions (bs a) c.formula.new.self.progress (many a) (i a) (behind a) (read a) (inside a) c.in-Some-node_of.field-0 (sign a ∙ c.in-Some-node_of.is) ∙ sym (ap Err c.at-in-Some-node_of.ensures))

@@ -1,17 +1,21 @@
-use Rattle.std.proofs.Common.{◌≡◌, Ok, Err, sym, ap, ◌∙◌, arith}
+use Rattle.std.proofs.Common.{◌≡◌, Ok, Err, ap, ◌∙◌, arith}
+use Rattle.std.proofs.lemmas.List.{length-take}
 use Rattle.wire.specs.Reading.{and_then}
-use Rattle.wire.proofs.Loops.{fails}
-use Rattle.service.specs.File.{entry_of, row_of}
-use Rattle.service.proofs.Turns.{slot_more, slot_stops}
+use Rattle.service.specs.File.{entry_of}
+use Rattle.service.proofs.Turns.{front_more, front_stops, fails}
 use Rattle.service.proofs.service.fill_row.Goals as goal
 
-pub returns-in_err-v : goal.returns-in_err-v
-returns-in_err-v c =
-    let step : entry_of c.args.bytes.now c.args.high c.loop-a.at 0 ≡ Err c.in_err-v.field-0.0 = ap (λ r. and_then r (λ p. Ok (p.1, p.0))) (sym c.in_err-v.ensures.value) in
-    let end = slot_stops 0 (entry_of c.args.bytes.now c.args.high) c.args.k c.loop-a.a c.loop-a.at c.loop-a.row (omega arith) _ step in
-    fails c.from_residual.result c.loop-a.row (row_of c.args.bytes.now c.args.k c.args.high c.args.at c.args.row.now) _ c.from_residual.ensures.1 (sym c.loop-a.invariant ∙ end)
+pub returns-in_err-slot-clause-fills : goal.returns-in_err-slot-clause-fills
+returns-in_err-slot-clause-fills c =
+    let read = entry_of c.args.reader.now.bytes.now c.args.high in
+    let step : read c.loop-slot.reader.at 0 ≡ Err c.in_err-slot.field-0.0 = ap (λ r. and_then r (λ p. Ok (p.1, p.0))) (rw c.loop-slot.invariant.bytes at c.in_err-slot.ensures.moves.0) in
+    fails _ _ _ _ _ c.from_residual.ensures.1 (front_stops 0 read c.args.actions c.loop-slot.slot-index c.loop-slot.reader.at c.loop-slot.slot-items _ _ c.loop-slot.invariant.reads (omega (arith, length-take c.from.result c.args.row.now)) (omega arith) _ step)
 
-pub loop-a-preserved : goal.loop-a-preserved
-loop-a-preserved c =
-    let step : entry_of c.args.bytes.now c.args.high c.loop-a.at 0 ≡ Ok (c.in_ok-v.next, c.in_ok-v.v) = ap (λ r. and_then r (λ p. Ok (p.1, p.0))) (sym c.in_ok-v.ensures.value) in
-    sym (slot_more 0 (entry_of c.args.bytes.now c.args.high) c.args.k c.loop-a.a c.loop-a.at c.loop-a.row (omega arith) c.in_ok-v.next c.in_ok-v.v step) ∙ c.loop-a.invariant
+pub loop-slot-preserved : goal.loop-slot-preserved
+loop-slot-preserved c =
+    let read = entry_of c.args.reader.now.bytes.now c.args.high in
+    let step : read c.loop-slot.reader.at 0 ≡ Ok (c.field.new.self.at, c.in_ok-slot.field-0) = ap (λ r. and_then r (λ p. Ok (p.1, p.0))) (rw c.loop-slot.invariant.bytes at c.in_ok-slot.ensures.moves) in
+    record {
+      bytes = c.field.ensures.bytes ∙ c.loop-slot.invariant.bytes;
+      reads = front_more 0 read c.args.actions c.loop-slot.slot-index c.loop-slot.reader.at c.loop-slot.slot-items _ _ c.loop-slot.invariant.reads (omega (arith, length-take c.from.result c.args.row.now)) (omega arith) _ _ step;
+    }

@@ -1,7 +1,11 @@
-use Rattle.std.proofs.Common.{◌≡◌, ◌-◌}
+use Rattle.std.proofs.Common.{◌≡◌, ◌-◌, ◌++◌, drop}
 use Rattle.wire.specs.Reading.{steps}
-use Rattle.service.specs.File.{slot, entry_of}
+use Rattle.service.specs.File.{slot, entry_of, row_of}
 use Rattle.service.proofs.service.fill_row.Given as goal
 
-abbrev pub invariant-loop-a : goal.invariant-loop-a
-invariant-loop-a l = steps (slot 0 (entry_of l.bytes l.high)) (l.k - l.a) l.a (l.at, l.row) ≡ steps (slot 0 (entry_of l.bytes l.high)) l.k 0 (l.initial.at, l.initial.row)
+abbrev pub invariant-loop-slot : goal.invariant-loop-slot
+invariant-loop-slot l =
+    record {
+      bytes : l.reader.bytes.now ≡ l.fn.reader.bytes.now;
+      reads : steps (slot 0 (entry_of l.fn.reader.bytes.now l.high)) (l.actions - l.slot-index) l.slot-index (l.reader.at, l.slot-items ++ drop l.actions l.fn.row) ≡ row_of l.fn.reader.bytes.now l.actions l.high l.fn.reader.at l.fn.row;
+    }

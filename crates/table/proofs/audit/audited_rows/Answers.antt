@@ -1,35 +1,52 @@
-use Rattle.std.proofs.Common.{Bool, Err, vec_items, sym, refl, ap, ◌∙◌, inl}
+use Rattle.std.proofs.Common.{◌≡◌, ◌<◌, Bool, true, not, is_some, slice_index_or, Some, None, Ok, Err, vec_items, sym, ap, ◌∙◌, inl, arith, rules}
+use Rattle.std.specs.List.{find}
+use Rattle.wire.specs.Readers.{ended}
 use Rattle.board.specs.Rounds.{held}
-use Rattle.board.specs.declared.table.Row.{Row}
-use Rattle.table.specs.Audit.{leads, fallen, audit_of}
-use Rattle.table.proofs.Turns.{whole_count, whole_rows, whole_left, whole_lost, whole_fallen, err_cases, as_whole}
+use Rattle.table.specs.declared.audit.Placed.{Placed}
+use Rattle.table.specs.Audit.{count_at, row_at, leads}
+use Rattle.table.proofs.Forms.{row_parts}
+use Rattle.table.proofs.Turns.{reading_none, reading_more, reading_stops, reading_left, reading_loose, reading_whole}
 use Rattle.table.proofs.audit.audited_rows.Goals as goal
 
-pub returns-in_err-count : goal.returns-in_err-count
-returns-in_err-count g c =
-    err_cases c.from_residual.result _ _ _ c.from_residual.ensures.1 (inl (whole_count (g.B.Board.arena c.args.board.now) c.args.bytes.now _ (sym c.in_err-count.ensures)))
+pub loop-init : goal.loop-init
+loop-init g c =
+    let b = g.B.Board.arena c.args.board.now in
+    let counted : count_at b c.args.bytes.now ≡ Ok (c.in_ok-count.count, c.count.new.self.numbers.at) = search rules in
+    (search rules, search rules, reading_none _ _ _ c.count.new.self.floor _ _ _ counted (search rules) c.new-rows.ensures.items c.none-ranks.ensures)
 
-pub read_rows-requires : goal.read_rows-requires
-read_rows-requires g c = record { empty = c.new-rows.ensures.items; blank = refl }
+pub returns-in_err-row : goal.returns-in_err-row
+returns-in_err-row g c =
+    let w = reading_stops _ _ _ _ _ _ _ _ c.loop.invariant.2 c.loop-test.true in
+    search rules
 
-pub returns-in_err-end : goal.returns-in_err-end
-returns-in_err-end g c =
-    err_cases c.from_residual-in_err-end.result _ _ _ c.from_residual-in_err-end.ensures.1
-    (whole_rows (g.B.Board.arena c.args.board.now) c.args.bytes.now c.in_ok-count.count c.in_ok-count.at (sym c.in_ok-count.ensures) _ c.in_err-end.ensures)
+pub loop-preserved : goal.loop-preserved
+loop-preserved g c =
+    let b = g.B.Board.arena c.args.board.now in
+    let r = c.in_ok-row.row in
+    let read : row_at b c.args.bytes.now c.loop.reader.floor c.loop.reader.numbers.at ≡ Ok (r, c.row.new.self.numbers.at) = search rules in
+    let parts = row_parts b c.args.bytes.now c.loop.reader.floor c.loop.reader.numbers.at (r, c.row.new.self.numbers.at) read in
+    let below : r.position < 1024 = omega (arith, parts.on, (g.B.Board.lawful c.args.board.now).few_positions) in
+    let w = reading_more _ _ _ _ _ _ _ _ c.loop.invariant.2 c.loop-test.true r c.row.new.self.numbers.at below parts.above read in
+    search rules
 
-pub returns-then-end-bytes : goal.returns-then-end-bytes
-returns-then-end-bytes g c =
-    let fault = whole_left (g.B.Board.arena c.args.board.now) c.args.bytes.now c.in_ok-count.count c.in_ok-count.at (sym c.in_ok-count.ensures) c.in_ok-end.end (vec_items c.read_rows.new.rows) c.in_ok-end.ensures.0 c.if-end-bytes.true in
-    inl (fault ∙ ap Err (sym c.at.ensures))
+pub returns-in_err-finish : goal.returns-in_err-finish
+returns-in_err-finish g c =
+    let w = reading_left _ _ _ _ _ _ _ _ c.loop.invariant.2 c.loop-test.false in
+    search rules
 
-pub returns-then-is_none : goal.returns-then-is_none
-returns-then-is_none g c =
-    let fault = whole_lost (g.B.Board.arena c.args.board.now) c.args.bytes.now c.in_ok-count.count c.in_ok-count.at (sym c.in_ok-count.ensures) c.in_ok-end.end (vec_items c.read_rows.new.rows) c.in_ok-end.ensures.0 c.if-end-bytes.false c.read_rows.new.ranks c.in_ok-end.ensures.1 c.if-is_none.ensures in
-    inl (fault ∙ ap Err (sym c.at-then-is_none.ensures))
+pub returns-in-Some : goal.returns-in-Some
+returns-in-Some g c =
+    let done : ended c.args.bytes.now c.loop.reader.numbers.at ≡ Ok tt = search rules in
+    let some : is_some (slice_index_or c.loop.ranks.of 0 None) ≡ true = search rules in
+    let loose : Placed → Bool = λ (x : Placed). not (leads (g.B.Board.arena c.args.board.now) (held c.loop.ranks.of) x.row) in
+    let found : find loose (vec_items c.loop.rows) ≡ Some c.in-Some.loose = ap (find loose) (sym c.deref.ensures.value) ∙ sym c.in-Some.ensures in
+    inl (reading_loose _ _ _ _ _ _ _ _ c.loop.invariant.2 c.loop-test.false done some c.in-Some.loose found ∙ ap Err (sym c.at-in-Some.ensures))
 
 pub returns : goal.returns
 returns g c =
-    let b = g.B.Board.arena c.args.board.now in
-    let f : Row → Bool = leads b (held c.read_rows.new.ranks) in
-    let same = whole_fallen b c.args.bytes.now c.in_ok-count.count c.in_ok-count.at (sym c.in_ok-count.ensures) c.in_ok-end.end (vec_items c.read_rows.new.rows) c.in_ok-end.ensures.0 c.if-end-bytes.false c.read_rows.new.ranks c.in_ok-end.ensures.1 c.if-is_none.ensures in
-    as_whole vec_items c.falling_rows.result (fallen f c.deref.result.now) (audit_of b c.args.bytes.now) (same ∙ ap (fallen f) (sym c.deref.ensures.value)) c.falling_rows.ensures
+    let done : ended c.args.bytes.now c.loop.reader.numbers.at ≡ Ok tt = search rules in
+    let some : is_some (slice_index_or c.loop.ranks.of 0 None) ≡ true = search rules in
+    let loose : Placed → Bool = λ (x : Placed). not (leads (g.B.Board.arena c.args.board.now) (held c.loop.ranks.of) x.row) in
+    let found : find loose (vec_items c.loop.rows) ≡ None = ap (find loose) (sym c.deref.ensures.value) ∙ sym c.in_default.ensures in
+    let w = reading_whole _ _ _ _ _ _ _ _ c.loop.invariant.2 c.loop-test.false done some found in
+    search rules

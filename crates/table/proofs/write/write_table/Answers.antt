@@ -1,16 +1,24 @@
-use Rattle.std.proofs.Common.{arith}
-use Rattle.table.proofs.Putting.{too_many, count_short, count_then, puts_short, puts_table}
+use Rattle.std.proofs.Common.{rules, refl}
+use Rattle.table.proofs.Putting.{count_fails, put_on_none, put_on_more, put_on_stops, put_on_all, no_row}
 use Rattle.table.proofs.write.write_table.Goals as goal
 
-pub returns-then-rows-gt-MOST_ROWS : goal.returns-then-rows-gt-MOST_ROWS
-returns-then-rows-gt-MOST_ROWS c = (c.at.ensures, too_many c.args.rows.now c.args.output.now (omega arith))
+pub returns-in_err-number : goal.returns-in_err-number
+returns-in_err-number c =
+    let w = count_fails c.args.rows.now c.args.output.now c.in-Ok.count (search rules) _ c.number.new.self.output.now c.in_err-number.ensures.puts in
+    search rules
 
-pub returns-in_err-next : goal.returns-in_err-next
-returns-in_err-next c =
-    let w = c.in_err-next.ensures.writes in
-    puts_short c.args.rows.now c.args.output.now c.from_residual.result _ _ c.from_residual.ensures.1 w.0 (count_short c.args.rows.now c.args.output.now w.1)
+pub loop-row-init : goal.loop-row-init
+loop-row-init c = (put_on_none c.args.rows.now c.args.output.now c.in-Ok.count (search rules) c.number.new.self c.in_ok-number.ensures.puts, refl)
+
+pub returns-in_err-row : goal.returns-in_err-row
+returns-in_err-row c =
+    let w = put_on_stops c.args.rows.now c.args.output.now c.loop-row.row-index c.loop-row.writer no_row c.loop-row.invariant.0 c.loop-row-test.true _ c.row.new.self c.in_err-row.ensures.puts in
+    search rules
+
+pub loop-row-preserved : goal.loop-row-preserved
+loop-row-preserved c = (put_on_more c.args.rows.now c.args.output.now c.loop-row.row-index c.loop-row.writer no_row c.loop-row.invariant.0 c.loop-row-test.true c.row.new.self c.in_ok-row.ensures.puts, search rules)
 
 pub returns : goal.returns
 returns c =
-    puts_table c.args.rows.now c.args.output.now c.write_rows.result _ (omega arith)
-    (count_then c.args.rows.now c.write_rows.result c.args.output.now _ _ c.in_ok-next.next c.in_ok-next.ensures.writes c.write_rows.ensures)
+    let w = put_on_all c.args.rows.now c.args.output.now c.loop-row.row-index c.loop-row.writer no_row c.loop-row.invariant.0 c.loop-row-test.false (search rules) in
+    search rules

@@ -1,4 +1,0 @@
-use Rattle.ltlf.proofs.reader.+read_formula.Given as goal
-
-abbrev pub decreases-read_formula : goal.decreases-read_formula
-decreases-read_formula l = l.levels
