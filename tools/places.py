@@ -17,7 +17,7 @@ def name(f):
     return str(f.relative_to(top / 'crates'))
 
 
-def lines(pattern, skip=None):
+def lines(pattern):
     found = []
     for f in files:
         for i, l in enumerate(f.read_text().splitlines(), 1):
@@ -26,17 +26,20 @@ def lines(pattern, skip=None):
     return found
 
 
-FN = re.compile(r'^( *)(?:pub(?:\(crate\))? )?fn (\w+)([^\n]*?\((?:.|\n)*?)\n?^\1\{\n((?:.|\n)*?)^\1\}', re.M)
+HEAD = re.compile(r'^( *)(?:pub(?:\(crate\))? )?fn (\w+)', re.M)
 
 
 def functions():
+    """Each function: its file, its name, its head with the clauses, its body."""
     for f in files:
         text = f.read_text()
-        for m in FN.finditer(text):
-            yield f, m.group(2), m.group(3), m.group(4)
-        for m in re.finditer(r'^( +)fn (\w+)(\([^{;]*?)\{\n((?:.|\n)*?)^\1\}', text, re.M):
-            if not FN.match(text, m.start()):
-                yield f, m.group(2), m.group(3), m.group(4)
+        for m in HEAD.finditer(text):
+            end = re.compile(r'^' + m.group(1) + r'\}|\{\}$', re.M).search(text, m.end())
+            whole = text[m.end():end.start()] if end else ''
+            # the body begins at a brace that ends a line, where the head has come to its end
+            body = re.search(r'(^ *|[^{ ] )\{\n', whole, re.M)
+            if body and ';' not in re.sub(r'\[[^\]]*\]', '', whole[:body.start()]):
+                yield f, m.group(2), whole[:body.start()], whole[body.end():]
 
 
 WORDS = set('let mut for in if else match return while fn Some None Ok Err self true false as'.split())

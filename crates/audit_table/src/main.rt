@@ -16,6 +16,7 @@ fn run(rt: &HostRuntime) -> anyhow::Result<()> {
     }
     match audit(rt.alloc(), bytes.as_slice(), &chart) {
         Ok(table) => {
+            // an accepted table has a row of the start
             let rank = table.row(0).map_or(0, |row| row.rank);
             println!(rt; "accepted rows {} rank {rank}", table.rows().len())?;
         }

@@ -1,5 +1,5 @@
 -- Rows from settled ranks.
-use Rattle.std.proofs.Common.{◌≡◌, ℕ, zero, suc, ◌+◌, ◌-◌, ◌<◌, ◌≤◌, Bool, true, false, cond, ◌&&◌, List, [], ◌∷◌, get_or, is_some, unwrap_or, IsErrAnd, Some, None, Ok, Err, Option, Result, sym, refl, ap, ◌∙◌, subst, inl, inr, ⊎_elim, add-one, arith, MatchResult}
+use Rattle.std.proofs.Common.{◌≡◌, ℕ, zero, suc, ◌+◌, ◌-◌, ◌<◌, ◌≤◌, Bool, true, false, cond, ◌&&◌, List, [], ◌∷◌, get_or, is_some, unwrap_or, Some, None, Ok, Err, Option, Result, sym, refl, ap, ◌∙◌, subst, inl, inr, ⊎_elim, add-one, arith}
 use mathlib.Core.Path.{fun_ext}
 use Rattle.std.specs.List.{cons_option, filter_map, find, list_all, range_with_len}
 use Rattle.std.proofs.lemmas.Bool.{both_ways, false≢true, cases_Bool, cases_eq, cases_lt, cond-true, cond-false, lt-ltb, le-ltb}
@@ -94,11 +94,6 @@ rows_listed b (suc n) p = ap (cons_option (row_if b p)) (rows_listed b n (p + 1)
     kept : (t : Bool) (r : Row) (rs : List Row) → cons_option (cond t (Some r) None) rs ≡ keep t r rs
     kept true r rs = refl
     kept false r rs = refl
-
--- what is left by a push that was refused
-pub refused_cases : {T E : Type 0} (r : Result T E) (P : T → Type 0) (Q : E → Type 0) → IsErrAnd r Q → MatchResult r P Q
-refused_cases (Ok x) P Q h = absurd h
-refused_cases (Err e) P Q h = h
 
 -- which rows solve answers
 module _ (b : Arena) (ok : Lawful b) where

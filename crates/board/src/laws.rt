@@ -1,4 +1,4 @@
-// The laws of ranks and tables, for every board.
+// The laws of ranks and tables, for every board. What these calls answer, 0, says nothing; callers have it so.
 ghost use Rattle.board.specs.Example.{RollIsSolved};
 ghost use Rattle.board.specs.Law.{WonIsForced, RoundsEnd, RankedIsForced, RankIsLeast, Hopeless, EveryPlaySucceeds, ForcesIsWithin, LawOfRounds};
 ghost use Rattle.board.specs.TableLaw.{SolutionIsRanked, SolutionIsAccepted, AcceptedForces, AcceptedIsAbove};

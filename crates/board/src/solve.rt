@@ -11,7 +11,7 @@ use crate::ranks::Ranks;
 use crate::table::{Row, Table};
 use wire::refusal::{Cause, Refusal};
 
-// A board, and the ranks that are found on it so far.
+// A board, and the ranks that are found on it so far. What moves the ranks says that the board stays.
 #[derive(Drop)]
 struct Solver<'b, B: Board> {
     board: &'b B,
@@ -98,7 +98,8 @@ impl<'b, B: Board> Ranked<'b, B> {
         Ranked { solver }
     }
 
-    // The row of a position that has a rank. A done one has choice 0, and the board is not asked about it.
+    // The row of a position that has a rank. A done one has choice 0, and the board is not asked about it; where the rank is above 0
+    // some choice wins.
     fn row_at(&self, position: usize) -> Option<Row>
         ensures { result ≡ row_if (B.arena self.now.solver.board.now) position }
     {
@@ -127,6 +128,7 @@ impl<'b, B: Board> Ranked<'b, B> {
 }
 
 // Fills the table with the row of every position that has a rank; refuses where the start has none.
+// The caller's own value is filled and not one answered, since the promise tells it after a refusal too.
 pub fn solve<B: Board>(board: &B, out: &mut Table) -> Result<(), Refusal>
     ensures solves { Solved (B.arena board.now) result out.new.rows.items }
     ensures law { SolveLaw (B.arena board.now) result out.new.rows.items }

@@ -3,6 +3,7 @@ ghost use Rattle.std.specs.Prelude.{◌≡◌};
 ghost use Rattle.board.specs.Spot.{seen, is_done, outcomes_in};
 
 // The position is done, or there are the outcomes of each choice, none where it cannot be played.
+// Not an `Option`: `None` would not say that the position is done.
 #[derive(Drop)]
 pub enum Spot {
     Done,

@@ -18,15 +18,14 @@ fn numbers(heap: Global, event: &str) -> Result<Vec<u16>, AllocError> {
 
 // The numbers of each event, which the events borrow.
 fn lists(heap: Global, word: &str) -> Result<Vec<Vec<u16>>, AllocError> {
-    let mut out = Vec::new(heap);
-    for event in word.split(';') {
-        out.push(numbers(heap, event)?)?;
-    }
-    Ok(out)
+    word.split(';')
+        .map(|event| numbers(heap, event))
+        .try_collect(heap)
 }
 
 // The event that a word spells with its numbers: d, r:SLIP,POSITION, w:SLIP, a, l, h:POSITION,..
 fn event<'a>(word: &str, numbers: &'a [u16]) -> Option<Event<'a>> {
+    // a number that is missing counts as 0
     let first = numbers.first().copied().unwrap_or(0);
     match word.chars().next()? {
         'd' => Some(Event::Delegate),

@@ -38,8 +38,8 @@ pub(crate) fn satisfaction(
     word: &str,
     trace: &str,
 ) -> Result<(), Failure> {
-    let task = task_of(rt, actions, word)?;
     let trace = words::bytes(rt.alloc(), trace)?;
+    let task = task_of(rt, actions, word)?;
     println!(rt; "{}", satisfies(&task, trace.as_slice()))?;
     Ok(())
 }

@@ -1,4 +1,4 @@
-// Words of a vector: bytes in hexadecimal, and lists of small numbers.
+// Words of a vector: bytes in hexadecimal, and numbers.
 ghost use Rattle.std.specs.Prelude.{◌<◌};
 
 use std::alloc::{AllocError, Global};

@@ -1,4 +1,4 @@
-// The laws of composition, for every task and all services.
+// The laws of composition, for every task and all services. What these calls answer, 0, says nothing; callers have it so.
 ghost use Rattle.composition.specs.Law.{StatesListed, WonAfterStory, LawOfComposition, FoundIsComposed, FoundIsComposition};
 
 // The states to which a service may go are those of its entry.

@@ -2,7 +2,7 @@
 use crate::compose::compose;
 use crate::composed::ComposedBoard;
 use board::board::Board;
-use board::table::Table;
+use board::table::{Row, Table};
 use ltlf::reader::read_task;
 use ltlf::task::Task;
 use service::file::{CommunityFile, read_services};
@@ -40,11 +40,13 @@ fn prints_once(rt: HostRuntime) {
     assert_eq!(rt; board.outcomes(0, 0), [1, 2].as_slice());
     assert_eq!(rt; board.outcomes(2, 1), [1].as_slice());
     assert!(rt; board.outcomes(0, 1).is_empty() && board.outcomes(1, 0).is_empty());
-    let rows = table.rows();
-    assert_eq!(rt; rows.len(), 3);
-    assert_eq!(rt; (rows[0].position, rows[0].rank, rows[0].choice), (0, 2, 0));
-    assert_eq!(rt; (rows[1].position, rows[1].rank, rows[1].choice), (1, 0, 0));
-    assert_eq!(rt; (rows[2].position, rows[2].rank, rows[2].choice), (2, 1, 1));
+    let row = |position, rank, choice| Row {
+        position,
+        rank,
+        choice,
+    };
+    let rows = [row(0, 2, 0), row(1, 0, 0), row(2, 1, 1)];
+    assert_eq!(rt; table.rows(), rows.as_slice());
 }
 
 // Nobody can force that the paper is used up, so that it can be loaded.

@@ -224,6 +224,7 @@ fn in_range(actions: u8) -> bool
 }
 
 // Reads the task that `text` holds, for so many actions; after a refusal `out` is the zero task.
+// The caller's own value is filled and not one answered, since the promise tells it after a refusal too.
 pub fn read_task(actions: u8, text: &[u8], out: &mut Task) -> Result<(), Refusal>
     ensures reads { Read actions text.now result out.new.actions out.new.nodes.items }
     ensures law { TextLaw actions text.now }

@@ -10,7 +10,7 @@ ghost use Rattle.ltlf.specs.Truth.{satisfied};
 use crate::node::Node;
 use crate::task::{MAX_SIGNS, Task};
 
-// One bit for each node, by the node's number; false past the nodes.
+// One bit for each node, by the node's number; false past the nodes. An array of full size: rows are copied into what is searched.
 pub type Row = [bool; MAX_SIGNS];
 
 // The bit of operand `i` of node `n`. An operand stands behind its sign; any other number has no bit.
@@ -97,7 +97,7 @@ pub fn end_row(nodes: &[Node]) -> Row
     row_by(nodes, |n, node, here| truth_at_end(node, n, here))
 }
 
-// What every node keeps of a suffix whose row is `row`.
+// What every node keeps of a suffix whose row is `row`, and which is empty if `ended`: the row alone does not tell.
 pub fn pending_row(nodes: &[Node], row: &Row, ended: bool) -> Row
     ensures value { result ≡ row_by (pending_rule row.now ended) nodes.now }
     ensures means { (w : List ℕ) → row.now ≡ truths nodes.now w → ended ≡ empty w → result ≡ keeps nodes.now w }

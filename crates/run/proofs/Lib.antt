@@ -1,5 +1,4 @@
 pub mod Outcomes
-pub mod Onward
 pub mod Slips
 pub mod Runs
 pub mod Replays

@@ -60,6 +60,7 @@ pub fn replay<B: Board>(
     let ground = Ground { table, board };
     let mut run = Run::start(table, board, number);
     let mut answers = Vec::new(heap);
+    // No chain: each event goes on from the run that the one before has left.
     for event in events {
         answers.push(play(&mut run, &ground, *event))?;
     }

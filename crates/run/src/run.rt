@@ -116,6 +116,7 @@ impl Run {
     }
 }
 
+// Called by nothing: it shows what a caller owes a slip, and the check that a lost one is refused turns it.
 // A whole turn: delegates, and reports the position. Where the report is refused, the slip is waived, so that none is let go.
 fn turn<B: Board>(
     run: &mut Run,

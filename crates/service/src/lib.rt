@@ -6,6 +6,6 @@ pub mod file;
 pub mod limits;
 pub mod roll;
 pub mod service;
-mod sets;
+pub mod sets;
 #[cfg(test)]
 mod tests;

@@ -50,7 +50,7 @@ impl Service {
         self.finals
     }
 
-    // The set of next states from a state by an action.
+    // The set of next states from a state by an action; out of range it is empty, which is 0.
     pub(crate) fn entry(&self, state: u8, action: u8) -> u16
         ensures { result ≡ set_at self.now state action }
     {

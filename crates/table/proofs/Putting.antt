@@ -1,6 +1,6 @@
 -- Bytes that are put one after another.
 use Rattle.std.proofs.Common.{◌≡◌, ℕ, ◌+◌, ◌-◌, ◌<◌, ◌≤◌, true, false, eqb, leb, is_err, true≢false, List, [], ◌∷◌, ◌++◌, length, get_or, drop, set, replicate, Ok, Err, Result, sym, refl, ap, ◌∙◌, subst, arith}
-use Rattle.std.proofs.lemmas.List.{append_assoc, at_drop_more, at_drop_all, length-append, length-set, length_push, length-replicate, drop-replicate, set_at}
+use Rattle.std.proofs.lemmas.List.{append_assoc, at_drop_more, length-append, length-set, length_push, length-replicate, drop-replicate, set_at}
 use Rattle.std.proofs.lemmas.Bool.{lt-leb, le-leb, eq-eqb, ne_eqb, cond-true, cond-false, and_right, and_from}
 use Rattle.wire.specs.declared.refusal.Cause.TheVariants as cause
 use Rattle.wire.specs.declared.refusal.Refusal.{Refusal}
@@ -139,19 +139,6 @@ module _ (rows : List Row) (before : List ℕ) where
           within = omega (arith, p.1, w.long);
           long = ap length p.2 ∙ put_length now.output.now now.at ys ∙ w.long;
         }
-
-    pub put_on_stops : i < length rows → (e : Refusal) (after : Writer) → Adds (Err e) now after (row_bytes (get_or rows i d)) → PutsTable (Err e) before after.output.now rows
-    put_on_stops l e after p =
-        let ys = row_bytes (get_or rows i d) in
-        let zs = rows_bytes (drop (i + 1) rows) in
-        let n : length (rows_bytes (drop i rows)) ≡ length ys + length zs = ap length (split l) ∙ length-append ys zs in
-        too_long e p.0 (omega (arith, n, p.1, w.ends, w.long))
-
-    pub put_on_all : length rows ≤ i → length rows ≤ 65535 → PutsTable (Ok now.at) before now.output.now rows
-    put_on_all l m =
-        let s : rows_bytes (drop i rows) ≡ [] = at_drop_all rows_bytes rows i l in
-        let n : length (rows_bytes (drop i rows)) ≡ 0 = ap length s in
-        (m, (omega (arith, n, w.ends), w.within, ap (put_at now.output.now now.at) (sym s) ∙ w.same))
 
 -- a table that was written leaves what it should in an output that was all zero
 pub table_leaves : (rows : List Row) (room : ℕ) (before after : List ℕ) (r : Result ℕ Refusal) → before ≡ replicate room 0 → is_err r ≡ false → PutsTable r before after rows → after ≡ holding rows room

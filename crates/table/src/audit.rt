@@ -20,6 +20,7 @@ struct Placed {
 }
 
 // Reads rows of a board; the position of the next one is not below `floor`.
+// Each call says that board and bytes stay: that relates before and after, so no invariant can.
 #[derive(Drop)]
 struct RowReader<'a, B> {
     board: &'a B,

@@ -57,6 +57,7 @@ fn write_table(output: &mut [u8], rows: &[Row]) -> Result<usize, Refusal>
 
 // Writes the table and says how many bytes it has; every byte of the output behind them is zero.
 // A table that does not fit, or has more rows than a number can hold, is refused, and the output is all zero.
+// The caller's own value is filled and not one answered, since the promise tells it after a refusal too.
 #[tactic(auto, using(crate::proofs::Laws::solution_is_audited, crate::proofs::Putting::table_leaves))]
 pub fn write(table: &Table, output: &mut [u8]) -> Result<usize, Refusal>
     ensures says { result ≡ written table.now.rows.items (length output.old) }

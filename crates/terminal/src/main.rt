@@ -10,6 +10,7 @@ use ltlf::truth::satisfies;
 use service::community::Community;
 use service::file::{CommunityFile, read_services};
 use service::roll::{IS_OUT, LOADING, PRINTING, PaperRoll};
+use service::sets::has_state;
 use std::fs;
 use wire::refusal::Refusal;
 
@@ -30,8 +31,7 @@ fn planned(roll: &PaperRoll) -> u8 {
 
 // Whether the present state of the service is one of its final states.
 fn is_final(file: &CommunityFile, roll: &PaperRoll) -> bool {
-    let finals = file.finals(0).checked_shr(u32::from(roll.state(0)));
-    finals.is_some_and(|finals| finals & 1 == 1)
+    has_state(file.finals(0), roll.state(0))
 }
 
 fn name(action: u8) -> &'static str {
@@ -46,6 +46,7 @@ fn sell(
     roll: &mut PaperRoll,
 ) -> anyhow::Result<()> {
     let mut actions = Vec::new(rt.alloc());
+    // counted, since the step is printed
     for step in 0..MAX_STEPS {
         if satisfies(task, actions.as_slice()) && is_final(file, roll) {
             println!(rt; "done: the actions satisfy the task, and the roll has paper")?;

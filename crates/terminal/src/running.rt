@@ -27,7 +27,7 @@ const REPLIES: [u16; 2] = [2, 1];
 // Longer than the table of the demonstration.
 const BUFFER: usize = 64;
 
-// The table to run: what audit accepted of just these bytes on just this board.
+// The table to run: what audit accepted of just these bytes on just this board. A call of its own, so that this can be told and tried.
 fn accepted<B: Board>(heap: Global, bytes: &[u8], board: &B) -> Result<AuditedTable, Refusal>
     ensures { IfOk result (λ t. audit_of (B.arena board.now) bytes.now ≡ Ok t.rows.items) }
 {
@@ -55,7 +55,7 @@ fn rehearse(
     show(rt, "now", run.look())
 }
 
-// Reports the reply with the slip, which comes back where the report is refused.
+// Reports the reply with the slip, which comes back where the report is refused. A call of its own, so that its promise can be told and tried.
 fn report(run: &mut Run, slip: Slip, chart: &Chart, reply: u16) -> Result<(), (Refusal, Slip)>
     ensures { (rows : List Row) → (result, run.new.rec) ≡ spent slip (step (chart_arena chart.now) rows run.old.rec (Event.Report slip.run reply)) }
 {
@@ -125,12 +125,8 @@ pub(crate) fn run_table(rt: &HostRuntime, chart: &Chart, table: &Table) -> anyho
         Ok(length) => length,
         Err(refusal) => return refused(rt, "write", refusal),
     };
-    let written = bytes
-        .iter()
-        .take(length)
-        .copied()
-        .collect::<Vec<u8>>(rt.alloc())?;
-    match accepted(rt.alloc(), written.as_slice(), chart) {
+    let written = bytes.get(..length).unwrap_or(&bytes);
+    match accepted(rt.alloc(), written, chart) {
         Ok(audited) => {
             let mut run = Run::start(&audited, chart, NUMBER);
             rehearse(rt, &mut run, &audited, chart)?;

@@ -8,7 +8,7 @@ use crate::field::read_field;
 use crate::number::number_at;
 use crate::refusal::{Cause, Refusal};
 
-// The next number begins at `at`.
+// The next number begins at `at`. What moves a reader says each time that the bytes stay: it relates before and after, so no invariant can.
 #[derive(Clone, Copy)]
 pub struct Reader<'a> {
     bytes: &'a [u8],

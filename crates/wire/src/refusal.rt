@@ -76,7 +76,7 @@ impl Cause {
 }
 
 // Two causes are the same exactly where their numbers are.
-// Not derived: a derived `==` has no clause that says it is exact, and callers lean on one.
+// Not derived: a derived `==` has no clause that says it is exact, and this one promises it.
 impl PartialEq for Cause {
     ghost eq = { on number_of nat_eq };
 

@@ -46,6 +46,7 @@ fn read_whole(bytes: &[u8], heap: Global) -> Result<Chart, Refusal>
 }
 
 // Reads a chart file into `out`, which is the zero chart after any refusal.
+// The caller's own value is filled and not one answered, since the promise tells it after a refusal too.
 pub fn read_chart(bytes: &[u8], out: &mut Chart) -> Result<(), Refusal>
     ensures reads { ReadsSheet bytes.now result (sheet out.new) }
     ensures law { ChartLaw bytes.now result (chart_arena out.new) }

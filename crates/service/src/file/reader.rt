@@ -39,6 +39,7 @@ impl CommunityFile {
 }
 
 // Reads a services file into `out`, which is the zero file after any refusal.
+// The caller's own value is filled and not one answered, since the promise tells it after a refusal too.
 pub fn read_services(bytes: &[u8], out: &mut CommunityFile) -> Result<(), Refusal>
     ensures says { result ≡ answer (file_of bytes.now) }
     ensures leaves { contents out.new ≡ left zero_file (file_of bytes.now) }

@@ -1,5 +1,5 @@
 use Rattle.std.proofs.Common.{rules, refl}
-use Rattle.table.proofs.Putting.{count_fails, put_on_none, put_on_more, put_on_stops, put_on_all, no_row}
+use Rattle.table.proofs.Putting.{count_fails, put_on_none, put_on_more, no_row}
 use Rattle.table.proofs.write.write_table.Goals as goal
 
 pub returns-in_err-number : goal.returns-in_err-number
@@ -10,15 +10,5 @@ returns-in_err-number c =
 pub loop-row-init : goal.loop-row-init
 loop-row-init c = (put_on_none c.args.rows.now c.args.output.now c.in-Ok.count (search rules) c.number.new.self c.in_ok-number.ensures.puts, refl)
 
-pub returns-in_err-row : goal.returns-in_err-row
-returns-in_err-row c =
-    let w = put_on_stops c.args.rows.now c.args.output.now c.loop-row.row-index c.loop-row.writer no_row c.loop-row.invariant.0 c.loop-row-test.true _ c.row.new.self c.in_err-row.ensures.puts in
-    search rules
-
 pub loop-row-preserved : goal.loop-row-preserved
 loop-row-preserved c = (put_on_more c.args.rows.now c.args.output.now c.loop-row.row-index c.loop-row.writer no_row c.loop-row.invariant.0 c.loop-row-test.true c.row.new.self c.in_ok-row.ensures.puts, search rules)
-
-pub returns : goal.returns
-returns c =
-    let w = put_on_all c.args.rows.now c.args.output.now c.loop-row.row-index c.loop-row.writer no_row c.loop-row.invariant.0 c.loop-row-test.false (search rules) in
-    search rules

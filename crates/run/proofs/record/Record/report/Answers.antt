@@ -4,9 +4,3 @@ use Rattle.run.proofs.«record».Record.report.Goals as goal
 
 pub returns-then-not-contains : goal.returns-then-not-contains
 returns-then-not-contains g c = let h = c.contains.ensures.value ∙ contains_has c.args.position _ in search (rules, h)
-
-pub returns-then-self-ge-MAX_REPORTS : goal.returns-then-self-ge-MAX_REPORTS
-returns-then-self-ge-MAX_REPORTS g c = let h = c.contains.ensures.value ∙ contains_has c.args.position _ in search (rules, h)
-
-pub returns : goal.returns
-returns g c = let h = c.contains.ensures.value ∙ contains_has c.args.position _ in search (rules, h)
