@@ -11,7 +11,8 @@ use crate::ranks::Ranks;
 use crate::table::{Row, Table};
 use wire::refusal::{Cause, Refusal};
 
-// A board, and the ranks that are found on it so far. What moves the ranks says that the board stays.
+// A board, and the ranks that are found on it so far. What moves the ranks says that the board stays: that relates before and after,
+// so no invariant can.
 #[derive(Drop)]
 struct Solver<'b, B: Board> {
     board: &'b B,

@@ -25,7 +25,7 @@ fn lists(heap: Global, word: &str) -> Result<Vec<Vec<u16>>, AllocError> {
 
 // The event that a word spells with its numbers: d, r:SLIP,POSITION, w:SLIP, a, l, h:POSITION,..
 fn event<'a>(word: &str, numbers: &'a [u16]) -> Option<Event<'a>> {
-    // a number that is missing counts as 0
+    // a number that is missing counts as 0, as vectors are told
     let first = numbers.first().copied().unwrap_or(0);
     match word.chars().next()? {
         'd' => Some(Event::Delegate),

@@ -3,7 +3,7 @@ ghost use Rattle.std.specs.Prelude.{◌<◌};
 
 use std::alloc::{AllocError, Global};
 
-// A hexadecimal digit's value; anything else, a capital too (which `to_digit` would take), counts as 0.
+// A hexadecimal digit's value; anything else, a capital too (which `to_digit` would take), counts as 0, as vectors are told.
 fn digit(b: u8) -> u8
     ensures { result < 16 }
 {

@@ -1,6 +1,6 @@
 // One sign or letter of a task.
 
-// A node of a formula: an action's number, or the numbers of the operands' nodes.
+// A node of a formula: an action's number, or the numbers of the operands' nodes (by number and not boxed: rows of truth go by it).
 #[derive(Clone, Copy, PartialEq, Eq, Debug)]
 pub enum Node {
     Action(u8),

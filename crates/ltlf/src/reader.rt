@@ -8,6 +8,7 @@ use crate::node::Node;
 use crate::task::{MAX_SIGNS, Task};
 use wire::refusal::{Cause, Refusal};
 
+// As one byte, as actions are told; what counts places in a row has a length of its own.
 const MAX_ACTIONS: u8 = 16;
 
 const MAX_LEVELS: u8 = 16;
@@ -21,7 +22,8 @@ struct Progress {
     temporals: u8,
 }
 
-// A text that is read for so many actions, and how far the reading has come.
+// A text that is read for so many actions, and how far the reading has come. What moves it says that text and actions stay: that relates
+// before and after, so no invariant can.
 #[derive(Drop)]
 struct Parser<'t> {
     text: &'t [u8],

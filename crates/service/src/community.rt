@@ -4,7 +4,7 @@ ghost use Rattle.service.specs.Tables.{Tables, Lawful, Performs};
 
 use wire::refusal::Refusal;
 
-// Out of range every question answers 0, the empty set: the interface has no preconditions.
+// Out of range every question answers 0, which for an entry is the empty set: the interface has no preconditions.
 pub trait Community {
     ghost tables: { Self → Tables };
 
