@@ -164,6 +164,28 @@ module _ {X Y : Type 0} (g : Game X) (k : Game Y) (P : X → Type 0) (f : X → 
     λ w. image_won m start p ∙ forced_won g start w.0 m w.1,
   )
 
+-- Whole plays: xs n is what was read after n steps.
+pub record Ends {X : Type 0} (g : Game X) (o : X → ℕ) (xs : ℕ → X) (m : ℕ) : Type 0 where
+  pub steps : ℕ
+  pub in_time : steps ≤ m
+  pub succeeds : g.done (xs steps) ≡ true
+  pub before : (j : ℕ) → j < steps → (g.done (xs j) ≡ false) × (some (g.outcomes (xs j) (o (xs j))) ≡ true)
+
+module _ {X : Type 0} (g : Game X) (o : X → ℕ) (xs : ℕ → X) (m : ℕ) (f : Forces g (xs 0) o m) (play : (n : ℕ) → g.done (xs n) ≡ false → some (g.outcomes (xs n) (o (xs n))) ≡ true → Member (xs (suc n)) (g.outcomes (xs n) (o (xs n)))) where
+  abbrev Open : ℕ → Type 0
+  Open j = (g.done (xs j) ≡ false) × (some (g.outcomes (xs j) (o (xs j))) ≡ true)
+
+  go_on : (k n : ℕ) → n + k ≡ m → Unfinished g (xs 0) o (xs n) n → g.done (xs n) ≡ false → ((j : ℕ) → j < n → Open j) → Ends g o xs m
+  go_on zero n e u d before = absurd (omega (arith, (f (xs n) n u).0))
+  go_on (suc k) n e u d before =
+      let plays = (f (xs n) n u).2 in
+      let so_far : (j : ℕ) → j < suc n → Open j = λ j l. ⊎_elim (λ s. subst Open (sym s) (d, plays)) (λ ne. before j (omega arith)) (cases_eq j n) in
+      ⊎_elim (λ t. record { steps = suc n; in_time = omega arith; succeeds = t; before = so_far }) (λ t. go_on k (suc n) (omega arith) (moved u (play n d plays) t) t so_far) (cases_Bool (g.done (xs (suc n))))
+
+  pub plays_end : Ends g o xs m
+  plays_end =
+      ⊎_elim (λ t. record { steps = 0; in_time = omega arith; succeeds = t; before = λ j l. absurd (omega arith) }) (λ t. go_on m 0 (omega arith) (begun t) t (λ j l. absurd (omega arith))) (cases_Bool (g.done (xs 0)))
+
 -- Forcing by recursion.
 module _ {X : Type 0} (g : Game X) (start : X) (o : X → ℕ) where
   forces_within_from : (m : ℕ) (x : X) (n : ℕ) → Unfinished g start o x n → Forces g start o (n + m) → Within g o m x

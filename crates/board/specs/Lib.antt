@@ -9,6 +9,7 @@ pub mod Rounds
 pub mod Solving
 pub mod Spot
 pub mod Layout
+pub mod ChartSpots
 pub mod Spots
 pub mod Charts
 pub mod Reading

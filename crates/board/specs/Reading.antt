@@ -16,6 +16,14 @@ Reads view (Err e) there = (there ≡ Err e) ⊎ (e ≡ no_memory)
 abbrev pub ReadsTo : {A X : Type 0} → (A → X) → Result A Refusal → ℕ → Result (X × ℕ) Refusal → Type 0
 ReadsTo view r at there = Reads (λ a. (view a, at)) r there
 
+-- what a reader that asks for no memory answers, by what the bytes say
+abbrev pub Says : {A X : Type 0} → (A → X) → Result A Refusal → Result X Refusal → Type 0
+Says view (Ok a) there = there ≡ Ok (view a)
+Says view (Err e) there = there ≡ Err e
+
+abbrev pub SaysTo : {A X : Type 0} → (A → X) → Result A Refusal → ℕ → Result (X × ℕ) Refusal → Type 0
+SaysTo view r at there = Says (λ a. (view a, at)) r there
+
 -- one more of several things: where it ends, and the things so far
 abbrev pub one_more : {X : Type 0} → (ℕ → Result (X × ℕ) Refusal) → ℕ → ℕ × List X → Result (ℕ × List X) Refusal
 one_more read i s = and_then (read s.0) (λ p. Ok (p.1, s.1 ++ (p.0 ∷ [])))

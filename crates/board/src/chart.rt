@@ -1,11 +1,15 @@
 // A board as a table.
-ghost use Rattle.std.specs.Prelude.{◌≤◌, vec_len};
-ghost use Rattle.board.specs.Layout.{Limits, Sound};
+ghost use Rattle.std.specs.Prelude.{◌≡◌, ◌≤◌, vec_len};
+ghost use Rattle.std.specs.List.{All};
+ghost use Rattle.board.specs.Layout.{Limits};
+ghost use Rattle.board.specs.ChartSpots.{all_shown};
+ghost use Rattle.board.specs.Spot.{Fits};
 
-use crate::spot::Spot;
+use crate::chart::spot::ChartSpot;
 
 pub mod reader;
 pub mod shows;
+mod spot;
 
 // The numbers of positions and of choices of a chart.
 #[derive(Clone, Copy)]
@@ -19,7 +23,19 @@ pub(crate) struct Size {
 #[derive(Drop)]
 pub struct Chart {
     size: Size,
-    spots: Vec<Spot>,
+    spots: Vec<ChartSpot>,
     ghost sized: { vec_len spots ≤ size.positions },
-    ghost sound: { Sound size.positions size.choices spots.items },
+    ghost sound: { All (Fits size.positions size.choices) (all_shown spots) },
+}
+
+impl Size {
+    // Of the zero chart.
+    fn one() -> Size
+        ensures { (result.positions ≡ 1) × (result.choices ≡ 1) }
+    {
+        Size {
+            positions: 1,
+            choices: 1,
+        }
+    }
 }

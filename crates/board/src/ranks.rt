@@ -1,5 +1,5 @@
 // The ranks that positions have, as far as they are known.
-ghost use Rattle.std.specs.Prelude.{◌≡◌, Some, None, replicate, slice_index_or, slice_set};
+ghost use Rattle.std.specs.Prelude.{◌≡◌, ◌<◌, Some, None, replicate, slice_index_or, slice_set};
 ghost use Rattle.std.specs.List.{list_all};
 ghost use Rattle.board.specs.Rounds.{held};
 
@@ -28,6 +28,14 @@ impl Ranks {
         self.of.get(position).copied().flatten()
     }
 
+    // The same of a position that can have one: there is nothing to test.
+    pub(crate) fn at(&self, position: usize) -> Option<u16>
+        requires { position < 1024 }
+        ensures { result ≡ slice_index_or self.now.of position None }
+    {
+        self.of[position]
+    }
+
     // Gives the position the rank; past the last one there is nothing to give it to.
     pub fn set(&mut self, position: usize, rank: u16)
         ensures { self.new.of ≡ slice_set self.old.of position (Some rank) }
@@ -48,8 +56,11 @@ impl Ranks {
     pub fn all_below(&self, limit: u16, positions: &[u16]) -> bool
         ensures { result ≡ list_all (held self.now.of limit) positions.now }
     {
-        positions
-            .iter()
-            .all(|position| self.is_below(limit, usize::from(*position)))
+        for position in positions {
+            if !self.is_below(limit, usize::from(*position)) {
+                return false;
+            }
+        }
+        true
     }
 }

@@ -1,5 +1,5 @@
 // The ranks of a board, by rounds outward from its done positions, and the table that they give.
-ghost use Rattle.std.specs.Prelude.{◌≡◌, ℕ, false, [], None, MatchResult, slice_index_or, slice_set};
+ghost use Rattle.std.specs.Prelude.{◌≡◌, ◌<◌, ℕ, false, [], None, MatchResult, slice_index_or, slice_set};
 ghost use Rattle.std.specs.List.{find, range_with_len};
 ghost use Rattle.wire.specs.Refusals.{no_memory};
 ghost use Rattle.board.specs.Rounds.{wins_by, raised, Found, Settled};
@@ -44,11 +44,12 @@ impl<'b, B: Board> Solver<'b, B> {
 
     // Gives the position the rank if it has none and is winnable by lower ones; says whether it did.
     fn raise(&mut self, rank: u16, position: usize) -> bool
+        requires { position < 1024 }
         ensures board { self.new.board.now ≡ self.old.board.now }
         ensures after { self.new.ranks.of ≡ slice_set self.old.ranks.of position (raised (B.arena self.old.board.now) self.old.ranks.of rank position) }
         ensures still { result ≡ false → self.new.ranks.of ≡ self.old.ranks.of }
     {
-        if self.ranks.get(position).is_some() || self.lowest_choice(rank, position).is_none() {
+        if self.ranks.at(position).is_some() || self.lowest_choice(rank, position).is_none() {
             return false;
         }
         self.ranks.set(position, rank);
@@ -64,7 +65,9 @@ impl<'b, B: Board> Solver<'b, B> {
         // Not `any`, which would stop at the first.
         let mut changed = false;
         for position in 0..self.board.positions() {
-            changed |= self.raise(rank, position);
+            if self.raise(rank, position) {
+                changed = true;
+            }
         }
         changed
     }

@@ -8,37 +8,64 @@ use run::replay::replay;
 use std::alloc::{AllocError, Global};
 use std::io;
 
-// The numbers between commas that follow an event's letter.
-fn numbers(heap: Global, event: &str) -> Result<Vec<u16>, AllocError> {
-    match event.split_once(':') {
-        Some((_, list)) if !list.is_empty() => list.split(',').map(words::number).collect(heap),
-        _ => Ok(Vec::new(heap)),
+// The numbers between commas that follow an event's letter, as they are spelled.
+fn numbers(event: &str) -> &str {
+    event.split_once(':').map_or("", |(_, list)| list)
+}
+
+// The supposed positions of all rehearsals, one after another. Only these are kept: a rehearsal borrows them.
+fn supposed(heap: Global, list: &str) -> Result<Vec<u16>, AllocError> {
+    let mut positions = Vec::new(heap);
+    for event in list.split(';').filter(|event| event.starts_with('h')) {
+        let spelled = numbers(event);
+        if !spelled.is_empty() {
+            positions.extend(spelled.split(',').map(words::number))?;
+        }
     }
+    Ok(positions)
 }
 
-// The numbers of each event, which the events borrow.
-fn lists(heap: Global, word: &str) -> Result<Vec<Vec<u16>>, AllocError> {
-    word.split(';')
-        .map(|event| numbers(heap, event))
-        .try_collect(heap)
-}
-
-// The event that a word spells with its numbers: d, r:SLIP,POSITION, w:SLIP, a, l, h:POSITION,..
-fn event<'a>(word: &str, numbers: &'a [u16]) -> Option<Event<'a>> {
+// The event that a word spells: d, r:SLIP,POSITION, w:SLIP, a, l, h:POSITION,..
+// A rehearsal takes its positions off the front of `supposed`.
+fn event<'a>(word: &str, supposed: &mut &'a [u16]) -> Option<Event<'a>> {
+    let spelled = numbers(word);
     // a number that is missing counts as 0, as vectors are told
-    let first = numbers.first().copied().unwrap_or(0);
+    let mut values = spelled.split(',').map(words::number);
     match word.chars().next()? {
         'd' => Some(Event::Delegate),
         'r' => Some(Event::Report {
-            slip: first,
-            position: numbers.get(1).copied().unwrap_or(0),
+            slip: values.next().unwrap_or(0),
+            position: values.next().unwrap_or(0),
         }),
-        'w' => Some(Event::Waive { slip: first }),
+        'w' => Some(Event::Waive {
+            slip: values.next().unwrap_or(0),
+        }),
         'a' => Some(Event::Abandon),
         'l' => Some(Event::Look),
-        'h' => Some(Event::Rehearse { supposed: numbers }),
+        'h' => {
+            let count = if spelled.is_empty() {
+                0
+            } else {
+                spelled.split(',').count()
+            };
+            let (own, others) = supposed.split_at_checked(count)?;
+            *supposed = others;
+            Some(Event::Rehearse { supposed: own })
+        }
         _ => None,
     }
+}
+
+// The events that the words spell.
+fn events<'a>(heap: Global, list: &str, supposed: &'a [u16]) -> Result<Vec<Event<'a>>, AllocError> {
+    let mut rest = supposed;
+    let mut events = Vec::new(heap);
+    for word in list.split(';') {
+        if let Some(event) = event(word, &mut rest) {
+            events.push(event)?;
+        }
+    }
+    Ok(events)
 }
 
 fn show(rt: &HostRuntime, look: Look) -> io::Result<()> {
@@ -72,12 +99,8 @@ pub(crate) fn life(
 ) -> Result<(), Failure> {
     let chart = chart_of(rt, word)?;
     let audited = table_of(rt, table, &chart)?;
-    let lists = lists(rt.alloc(), list)?;
-    let events = list
-        .split(';')
-        .zip(lists.iter())
-        .filter_map(|(word, numbers)| event(word, numbers.as_slice()))
-        .collect::<Vec<Event>>(rt.alloc())?;
+    let supposed = supposed(rt.alloc(), list)?;
+    let events = events(rt.alloc(), list, supposed.as_slice())?;
     let number = words::number(number);
     let life = replay(rt.alloc(), &audited, &chart, number, events.as_slice())?;
     print!(rt; "run")?;

@@ -4,9 +4,14 @@ use Rattle.std.proofs.lemmas.List.{at_drop_all}
 use Rattle.board.specs.Arena.{Arena}
 use Rattle.board.specs.declared.table.Row.{Row}
 use Rattle.run.specs.declared.«record».Record.{Record}
+use Rattle.run.specs.declared.look.Look.{Look}
 use Rattle.run.specs.declared.event.Event.{Event}
 use Rattle.run.specs.declared.event.Answer.{Answer}
+use Rattle.run.specs.declared.event.Answer.TheVariants as answer
 use Rattle.run.specs.Run.{answers, after}
+
+pub seen_is : (l m : Look) → answer.Seen l ≡ answer.Seen m → l ≡ m
+seen_is l m e = cc
 
 module _ (b : Arena) (rows : List Row) (r0 : Record) (es : List Event) where
   -- the answers so far, and those that are to come; and the run in the end

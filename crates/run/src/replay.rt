@@ -5,7 +5,6 @@ ghost use Rattle.run.specs.Law.{Replayed};
 ghost use Rattle.run.specs.Run.{done_so, step, told};
 
 use crate::event::{Answer, Event, Replay};
-use crate::look::Look;
 use crate::record::Ground;
 use crate::run::Run;
 use board::board::Board;
@@ -34,10 +33,8 @@ fn play<B: Board>(run: &mut Run, ground: &Ground<B>, event: Event) -> Answer
         ),
         Event::Report { slip, position } => accept(run.rec.report(ground.board, slip, position)),
         Event::Waive { slip } => accept(run.rec.waive(slip)),
-        Event::Abandon => accept(run.rec.abandon()),
-        Event::Look => Answer::Seen {
-            look: Look::from(run.rec),
-        },
+        Event::Abandon => accept(run.abandon()),
+        Event::Look => Answer::Seen { look: run.look() },
         Event::Rehearse { supposed } => run
             .rehearse(ground.table, ground.board, supposed)
             .map_or_else(
@@ -66,6 +63,6 @@ pub fn replay<B: Board>(
     }
     Ok(Replay {
         answers,
-        look: Look::from(run.rec),
+        look: run.look(),
     })
 }

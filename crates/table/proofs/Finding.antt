@@ -1,5 +1,6 @@
 -- The row of a position, searched among rows that ascend.
-use Rattle.std.proofs.Common.{◌≡◌, ℕ, zero, suc, ◌<◌, ◌≤◌, List, [], ◌∷◌, length, get_or, Some, None, Ok, Err, Result, sym, refl, ap, ◌∙◌, ⊎_elim, arith, MatchResult}
+use Rattle.std.proofs.Common.{◌≡◌, ℕ, zero, suc, ◌<◌, ◌≤◌, cond, eqb, List, [], ◌∷◌, length, take, get_or, Some, None, Ok, Err, Result, sym, refl, ap, ◌∙◌, subst, ⊎_elim, arith, MatchResult}
+use Rattle.std.proofs.lemmas.List.{length-take, get_or-take}
 use Rattle.std.specs.List.Sorted.{IsSearchInRange, IsBinarySearchResult, IsNonDecreasingBy}
 use Rattle.std.specs.Ordering.{nat_cmp, ordering_index}
 use Rattle.std.proofs.lemmas.Bool.{cond-true, cond-false, eq-eqb, ne_eqb, cases_eq, cases_lt}
@@ -44,3 +45,24 @@ module _ (rows : List Row) (up : Rising rows) (p : ℕ) where
       (λ below. let less : (get_or rows k d).position < p = ranked _ p _ (sym (parted.0 k d (omega arith) below)) in omega arith)
       (λ above. let more : p < (get_or rows k d).position = ranked _ p _ (sym (parted.1 k d above l)) in omega arith)
       (cases_lt k i))
+
+-- rows that stand behind a row of a higher position need not be looked at
+rising_tail : (r : Row) (rows : List Row) → Rising (r ∷ rows) → Rising rows
+rising_tail r rows up i j d h l = up (suc i) (suc j) d (omega arith) (omega arith)
+
+pub front_enough : (rows : List Row) → Rising rows → (p e : ℕ) → (e < length rows → (d : Row) × (p < (get_or rows e d).position)) → find (take e rows) p ≡ find rows p
+front_enough [] up p zero h = refl
+front_enough [] up p (suc e) h = refl
+front_enough (r ∷ rows) up p zero h =
+    sym (lost (r ∷ rows) p (λ k d l q.
+    let first : p < r.position = (h (omega arith)).1 in
+    let rise : r.position ≤ (get_or (r ∷ rows) k d).position = ⊎_elim (λ e. let same = ap (λ i. (get_or (r ∷ rows) i d).position) e in omega (arith, same)) (λ n. omega (arith, up 0 k d (omega arith) l)) (cases_eq k 0) in
+    omega (arith, first, rise, q)))
+front_enough (r ∷ rows) up p (suc e) h = ap (cond (eqb r.position p) (Some r)) (front_enough rows (rising_tail r rows up) p e (λ l. h (omega arith)))
+
+pub rising_front : (rows : List Row) → Rising rows → (e : ℕ) → Rising (take e rows)
+rising_front rows up e i j d h l =
+    let k : j < e = omega (arith, length-take e rows) in
+    let m : j < length rows = omega (arith, length-take e rows) in
+    subst (λ x. x.position < (get_or (take e rows) j d).position) (sym (get_or-take e rows i d (omega arith)))
+    (subst (λ x. (get_or rows i d).position < x.position) (sym (get_or-take e rows j d k)) (up i j d h m))

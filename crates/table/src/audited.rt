@@ -1,5 +1,5 @@
 // Tables that have passed the audit.
-ghost use Rattle.std.specs.Prelude.{◌≡◌, ◌⊎◌, Ok, Err, MatchResult};
+ghost use Rattle.std.specs.Prelude.{◌≡◌, ◌≤◌, ◌⊎◌, length, take, Ok, Err, MatchResult};
 ghost use Rattle.board.specs.Table.{find};
 ghost use Rattle.wire.specs.Refusals.{no_memory};
 ghost use Rattle.table.specs.Audit.{audit_of, Rising};
@@ -25,15 +25,27 @@ impl AuditedTable {
         &self.rows
     }
 
-    // The row of the position.
+    // The row of the position, searched among the front rows alone, so that the first rows are found at once.
     pub fn row(&self, position: u16) -> Option<Row>
         ensures { result ≡ find self.now.rows.items position }
     {
-        let at = self
-            .rows
+        let front = &self.rows[..self.front(position)];
+        let at = front
             .binary_search_by_key(&position, |row| row.position)
             .ok()?;
-        Some(self.rows[at])
+        Some(front[at])
+    }
+
+    // A number of rows, from the front on, behind which the position has none: it doubles until a row has a higher position.
+    fn front(&self, position: u16) -> usize
+        ensures few { result ≤ length self.now.rows.items }
+        ensures enough { find (take result self.now.rows.items) position ≡ find self.now.rows.items position }
+    {
+        let mut end = 1;
+        while end < self.rows.len() && self.rows[end].position <= position {
+            end *= 2;
+        }
+        end.min(self.rows.len())
     }
 }
 

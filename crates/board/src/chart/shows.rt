@@ -13,10 +13,7 @@ impl Chart {
         ensures { sheet result ≡ zero_sheet }
     {
         Chart {
-            size: Size {
-                positions: 1,
-                choices: 1,
-            },
+            size: Size::one(),
             spots: Vec::new(heap),
         }
     }

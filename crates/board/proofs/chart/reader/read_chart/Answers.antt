@@ -1,14 +1,21 @@
-use Rattle.std.proofs.Common.{◌∙◌, Err, sym, ap, subst, inl, inr, ⊎_elim}
-use Rattle.std.proofs.lemmas.Result.{err_from_is_err_and}
-use Rattle.board.specs.Charts.{sheet, chart_arena}
-use Rattle.board.specs.ChartFile.{ChartLaw}
-use Rattle.board.proofs.Sheets.{law_read, law_refused}
+use Rattle.std.proofs.Common.{inl, inr, ⊎_elim, arith}
+use Rattle.std.proofs.lemmas.List.{length-map}
+use Rattle.board.specs.ChartSpots.{shown, all_shown}
+use Rattle.board.specs.Reading.{Sheet}
+use Rattle.board.proofs.Sheets.{law_read, law_refused, read_sized}
 use Rattle.board.proofs.chart.reader.read_chart.Goals as goal
 
-pub returns-in_err-out-clause-law : goal.returns-in_err-out-clause-law
-returns-in_err-out-clause-law c =
-    let p = err_from_is_err_and c.from_residual.result c.from_residual.ensures.1 in
-    subst (λ r. ChartLaw c.args.bytes.now r (chart_arena c.zero.result)) (sym (p.1 ∙ ap Err p.2)) (⊎_elim (λ r. inr (law_refused c.args.bytes.now _ r)) inl c.in_err-out.ensures)
+pub invariant_of-out : goal.invariant_of-out
+invariant_of-out c =
+    let read = c.read_whole.new.spots in
+    let x : Sheet = record { positions = c.in-Ok.size.positions; choices = c.in-Ok.size.choices; spots = all_shown read } in
+    let r = read_sized c.args.bytes.now (λ i. (c.type_inv.bytes i).fits) x c.in-Ok.ensures in
+    record { sized = omega (arith, r.0, length-map read.items shown, read.ok.0); sound = r.1 }
 
-pub returns-clause-law : goal.returns-clause-law
-returns-clause-law c = law_read c.args.bytes.now (λ i. (c.type_inv.bytes i).fits) (sheet c.in_ok-out.field-0) c.in_ok-out.ensures
+pub returns-in-Ok-clause-law : goal.returns-in-Ok-clause-law
+returns-in-Ok-clause-law c =
+    let x : Sheet = record { positions = c.in-Ok.size.positions; choices = c.in-Ok.size.choices; spots = all_shown c.read_whole.new.spots } in
+    law_read c.args.bytes.now (λ i. (c.type_inv.bytes i).fits) x c.in-Ok.ensures
+
+pub returns-in-Err-clause-law : goal.returns-in-Err-clause-law
+returns-in-Err-clause-law c = ⊎_elim (λ r. inr (law_refused c.args.bytes.now c.in-Err.refusal r)) inl c.in-Err.ensures

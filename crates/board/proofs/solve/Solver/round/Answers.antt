@@ -1,8 +1,9 @@
-use Rattle.std.proofs.Common.{◌+◌, ◌<◌, length, sym, ◌∙◌, ap, slice_set, subst, arith}
-use Rattle.std.proofs.lemmas.Bool.{or_parts}
+use Rattle.std.proofs.Common.{◌≡◌, ◌+◌, ◌<◌, false, length, sym, ◌∙◌, ap, slice_set, subst, arith}
+use Rattle.std.proofs.lemmas.Bool.{true≢false}
 use Rattle.board.specs.Rounds.{raised}
 use Rattle.board.proofs.Rounds.{Halfway, halfway_set, halfway_all, raised_same, not_raised}
 use Rattle.board.proofs.solve.Solver.round.Goals as goal
+use Rattle.board.proofs.solve.Solver.round.Goals.{then-raise, else-raise}
 
 pub loop-position-preserved : goal.loop-position-preserved
 loop-position-preserved g c =
@@ -12,10 +13,14 @@ loop-position-preserved g c =
     let cur = c.loop-position.self.ranks.of in
     let h = c.loop-position.invariant.1 in
     let room : p < length old = omega (arith, (g.B.Board.lawful c.args.self.now.board.now).few_positions) in
-    let after = c.raise-changed.ensures.after ∙ ap (λ a. slice_set cur p (raised (g.B.Board.arena a) cur c.args.rank p)) c.loop-position.invariant.0 in (
-      c.raise-changed.ensures.board ∙ c.loop-position.invariant.0,
+    let after = c.raise.ensures.after ∙ ap (λ a. slice_set cur p (raised (g.B.Board.arena a) cur c.args.rank p)) c.loop-position.invariant.0 in
+    let still : c.if-raise.changed ≡ false → c.raise.new.self.ranks.of ≡ old = elim c.if-raise.branch [
+      | then-raise w ↦ λ e. absurd (true≢false (sym w.changed-is ∙ e))
+      | else-raise w ↦ λ e. c.raise.ensures.still w.if-raise.false ∙ c.loop-position.invariant.2 (sym w.changed-is ∙ e)
+    ] in (
+      c.raise.ensures.board ∙ c.loop-position.invariant.0,
       subst (Halfway (raised b old c.args.rank) old (p + 1)) (sym after) (halfway_set _ _ p cur _ h room (raised_same b old cur c.args.rank p h)),
-      λ e. let no = or_parts c.loop-position.changed c.raise-changed.result e in c.raise-changed.ensures.still no.1 ∙ c.loop-position.invariant.2 no.0,
+      still,
     )
 
 pub returns-clause-each : goal.returns-clause-each
