@@ -8,7 +8,7 @@ pub(crate) const MOST_CHOICES: usize = 8;
 
 pub(crate) const MOST_OUTCOMES: usize = 8;
 
-// The outcomes of a choice: the first `count` of the slots; the others are 0.
+// The outcomes of a choice: the first `count` of the slots; nothing is said of the others.
 // Slots of full size, here and below: a chart then asks for memory where it has more positions than it had before, and nowhere else.
 #[derive(Clone, Copy)]
 pub(crate) struct Outcomes {
@@ -17,7 +17,7 @@ pub(crate) struct Outcomes {
     ghost few: { count ≤ 8 },
 }
 
-// The choices of a position: the first `count` of the slots; the others have no outcomes.
+// The choices of a position: the first `count` of the slots.
 #[derive(Clone, Copy)]
 pub(crate) struct Choices {
     pub(crate) count: u8,
